@@ -1,0 +1,19 @@
+use borrow.Author.Tests.{le-leb, lt-leb}
+use borrow.Author.Needs.{needs}
+use Rattle.breaks.proofs.write_verdict.Statement.{statement}
+use Rattle.breaks.proofs.write_verdict.Tie as tie
+
+break-fits-requires : tie.Need-break-fits-requires
+break-fits-requires c κs = search needs
+
+returns : tie.Need-returns
+returns c = simp (← c .before .break-fits .ensures, c .if1 .left)
+
+returns-2 : tie.Need-returns-2
+returns-2 c = simp (← c .before .before .break-fits .ensures, c .before .if1 .taken, le-leb _ _ (c .if2 .taken))
+
+returns-3 : tie.Need-returns-3
+returns-3 c = simp (← c .before .before .break-fits .ensures, c .before .if1 .taken, lt-leb _ _ (c .if2 .left))
+
+pub write-verdict-spec : {M : Type 1} → statement M
+write-verdict-spec = tie.close (tie.spec break-fits-requires returns returns-2 returns-3)

@@ -1,0 +1,44 @@
+-- The BREAK body: "BREAK (Table 26) is two octets: source 0 to 2, type 0 to 3, length in 10 ms".
+-- Assumes nothing.
+use Prim.Native.Nat.{ℕ}
+use mathlib.Core.Bool.{Bool}
+use mathlib.Core.List.{List, [], _∷_}
+use lib.ListN.{length}
+use lib.Dec.{ltb, leb, eqb}
+use Rattle.ground.specs.Pick.{allHold}
+use Rattle.ground.specs.Refusal.{Test, must, verdict, settle}
+use Rattle.ground.specs.Answer.{Answer, accepted, refused}
+use Rattle.ground.specs.declared.Refusal.the-variants.{LENGTH, RANGE, ROOM}
+use Rattle.field.specs.Bits.{bitsAt}
+use Rattle.field.specs.Layout.{Field, of, packed}
+use Rattle.breaks.specs.declared.Break.{Break}
+use Rattle.breaks.specs.declared.Reading.{Reading}
+use Rattle.breaks.specs.declared.Reading.the-variants.{Says, Refused}
+
+-- Table 26: 0:3, 4:7, 8:15
+unfoldable pub breakAt : List ℕ → Break
+breakAt s = record { source = bitsAt s 0 4; kind = bitsAt s 4 4; lasts = bitsAt s 8 8 }
+
+abbrev pub layout : Break → List Field
+layout b = of 4 (b .source) ∷ of 4 (b .kind) ∷ of 8 (b .lasts) ∷ []
+
+unfoldable pub breakOctets : Break → List ℕ
+breakOctets b = packed (layout b)
+
+unfoldable pub breakFits : Break → Bool
+breakFits b = allHold (ltb (b .source) 3 ∷ ltb (b .kind) 4 ∷ leb (b .lasts) 255 ∷ [])
+
+-- "BREAK read: LENGTH, RANGE; written: RANGE, ROOM"
+abbrev pub readTests : List ℕ → List Test
+readTests s = must (eqb (length s) 2) LENGTH ∷ must (breakFits (breakAt s)) RANGE ∷ []
+
+abbrev pub writeTests : Break → ℕ → List Test
+writeTests b room = must (breakFits b) RANGE ∷ must (leb 2 room) ROOM ∷ []
+
+-- what each case of a reading stands for: source, type and length, or the refusal's number
+abbrev pub answerOf : Reading → Answer
+answerOf (Says b) = accepted (b .source ∷ b .kind ∷ b .lasts ∷ [])
+answerOf (Refused r) = refused r
+
+abbrev pub breakRead : List ℕ → Reading
+breakRead s = settle (verdict (readTests s)) Refused (Says (breakAt s))

@@ -1,0 +1,4 @@
+pub mod Decisions
+pub mod Distances
+pub mod Keeps
+pub mod Sized

@@ -1,0 +1,21 @@
+-- What is settled of a channel: "with windows of 32 and 8 messages".
+-- Assumes nothing.
+use Prim.Native.Nat.{ℕ}
+use lib.Dec.{eqb}
+use Rattle.ground.specs.Pick.{pick}
+use Rattle.channel.specs.declared.Channel.{Channel}
+
+-- "modulo 16,384"
+abbrev pub modulus : ℕ
+modulus = 16384
+
+-- "A channel takes at most 16,777,215 messages and hands out at most as many"
+abbrev pub cap : ℕ
+cap = 16777215
+
+-- the window of channel 1, and of channel 2
+abbrev pub windowOf : ℕ → ℕ
+windowOf number = pick (eqb number 1) 32 8
+
+abbrev pub channelOf : ℕ → Channel
+channelOf number = record { window = windowOf number }

@@ -1,0 +1,14 @@
+-- The distance of two sequence numbers, and the place of a message in its window.
+-- Assumes nothing.
+use Prim.Native.Nat.{ℕ, _+_, _-_, _%_}
+use lib.Dec.{ltb}
+use Rattle.ground.specs.Pick.{pick}
+use Rattle.channel.specs.Channel.{modulus}
+
+-- "let d = (n - R) mod 16,384": of n and of h only the 14 bits that a packet carries count
+abbrev pub dist : ℕ → ℕ → ℕ
+dist n h = (n % modulus + (modulus - h % modulus)) % modulus
+
+-- where the message lies that is i past the one at place first, in a window of w places: at first + i, less w where that runs over
+abbrev pub placeOf : ℕ → ℕ → ℕ → ℕ
+placeOf first i w = pick (ltb (first + i) w) (first + i) (first + i - w)

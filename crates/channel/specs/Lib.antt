@@ -1,0 +1,5 @@
+pub mod Channel
+pub mod Distance
+pub mod Receiving
+pub mod Sending
+pub mod Sizes

@@ -1,0 +1,27 @@
+-- The sizes of the messages that lie in a window's places.
+-- Assumes nothing.
+use Prim.Native.Nat.{ℕ}
+use mathlib.Core.Bool.{Bool, true, _&&_}
+use mathlib.Core.List.{List}
+use lib.Dec.{ltb, leb}
+use lib.ListN.{getD}
+use Rattle.ground.specs.Pick.{pick}
+use Rattle.ground.specs.Every.{every}
+use Rattle.channel.specs.Distance.{placeOf}
+use Rattle.places.specs.Places.{bitOf}
+
+-- "A message has 1 to 132 octets"; z is the largest
+abbrev pub sizeFits : ℕ → ℕ → Bool
+sizeFits z size = ltb 0 size && leb size z
+
+-- the size of the message that is i past the one at place first
+abbrev pub sizeOf : ℕ → List ℕ → ℕ → ℕ → ℕ
+sizeOf w sizes first i = getD sizes (placeOf first i w) 0
+
+-- message i of the set, if it is in it, has a size that fits
+abbrev pub sizeAt : ℕ → ℕ → List ℕ → ℕ → ℕ → ℕ → Bool
+sizeAt w z sizes m first i = pick (bitOf m i) (sizeFits z (sizeOf w sizes first i)) true
+
+-- "or either of 0 or over 132 octets": no message of the set is
+unfoldable pub sizesFit : ℕ → ℕ → List ℕ → ℕ → ℕ → Bool
+sizesFit w z sizes m first = every w (sizeAt w z sizes m first)

@@ -1,0 +1,72 @@
+// One reliable channel's two sides, by value (document 01, 'Packets'): what is taken and held, what is stored and handed out.
+// Windows and the largest message are parameters, each way its own. Octets lie in the store; lines, packets and the owed list
+// are left to others.
+ghost use mathlib.Core.Path.{_≡_};
+ghost use Prim.Native.Nat.{_+_, _^_, _<_};
+ghost use Rattle.channel.specs.Channel.{channelOf};
+ghost use Rattle.channel.specs.Distance.{dist, placeOf};
+
+mod receiving;
+mod sending;
+mod sizes;
+
+pub use receiving::Arrival;
+pub use receiving::Receiving;
+pub use sending::Acknowledged;
+pub use sending::Held;
+pub use sending::Ranked;
+pub use sending::Sending;
+pub use sizes::size_fits;
+
+// What is settled of a channel before it is used.
+pub struct Channel {
+    // How many messages may be under way: S - h is never over it.
+    pub window: u32,
+}
+
+impl Channel {
+    // The windows of channels 1 and 2.
+    pub const WINDOW1: u32 = 32;
+
+    pub const WINDOW2: u32 = 8;
+
+    // Sequence numbers are counted modulo this.
+    pub const MODULUS: u32 = 16384;
+
+    // The most messages that a channel takes, and that it hands out.
+    pub const CAP: u32 = 16777215;
+
+    // The most octets that a message has.
+    pub const LARGEST: u16 = 132;
+
+    // The channel of a number: 1, or else 2.
+    pub fn of(number: u8) -> Channel
+        ensures { λ r. ⌜ r ≡ channelOf number ⌝ }
+    {
+        if number == 1 {
+            Channel {
+                window: Channel::WINDOW1,
+            }
+        } else {
+            Channel {
+                window: Channel::WINDOW2,
+            }
+        }
+    }
+}
+
+// (n - h) mod 16,384. The only place where a remainder is taken.
+pub fn distance(n: u32, h: u32) -> u32
+    ensures { λ r. ⌜ r ≡ dist n h ⌝ }
+{
+    (n % Channel::MODULUS + (Channel::MODULUS - h % Channel::MODULUS)) % Channel::MODULUS
+}
+
+// Where the message lies that is i past the one at place first: at first + i, less the window where that runs over.
+pub fn place(first: u32, i: u32, window: u32) -> u32
+    requires { ⌜ first + i < 2 ^ 32 ⌝ }
+    ensures { λ r. ⌜ r ≡ placeOf first i window ⌝ }
+{
+    let at = first + i;
+    if at < window { at } else { at - window }
+}

@@ -1,0 +1,35 @@
+// The sizes of the messages that lie in a window's places: what BOOK asks of them, on either side.
+ghost use mathlib.Core.Path.{_≡_};
+ghost use Prim.Native.Nat.{_^_, _≤_, _<_};
+ghost use Rattle.places.specs.Places.{maskOf, widest};
+ghost use Rattle.channel.specs.Sizes.{sizeFits, sizesFit};
+use crate::place;
+use places::Places;
+
+// Has a message 1 to `largest` octets?
+pub fn size_fits(size: u16, largest: u16) -> bool
+    ensures { λ r. ⌜ r ≡ sizeFits largest size ⌝ }
+{
+    (0 < size) & (size <= largest)
+}
+
+// Has each message of the set, the oldest of which lies at place first, 1 to `largest` octets? Only places of the set are looked
+// at, and nothing past the highest.
+pub fn sizes_fit(sizes: [u16; 32], set: Places, first: u32, window: u32, largest: u16) -> bool
+    requires { ⌜ (first < window) × (window ≤ widest) × (maskOf set < 2 ^ window) ⌝ }
+    ensures { λ r. ⌜ r ≡ sizesFit window largest sizes (maskOf set) first ⌝ }
+{
+    let mut rest = set;
+    let mut i = 0;
+    while !rest.empty() {
+        if rest.has(0) {
+            let at = place(first, i, window) as usize;
+            if !size_fits(sizes[at], largest) {
+                return false;
+            }
+        }
+        rest = rest.dropped(1);
+        i += 1;
+    }
+    true
+}

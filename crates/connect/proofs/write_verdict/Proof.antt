@@ -1,0 +1,42 @@
+use borrow.Author.Tests.{le-leb, lt-leb}
+use Rattle.connect.proofs.Writes.{body-length}
+use borrow.Author.Needs.{needs}
+use Rattle.connect.proofs.write_verdict.Statement.{statement}
+use Rattle.connect.proofs.write_verdict.Tie as tie
+
+returns : tie.Need-returns
+returns c = simp (c .if1 .taken)
+
+numbers-fit-requires : tie.Need-numbers-fit-requires
+numbers-fit-requires c κs = search needs
+
+sizes-fit-requires : tie.Need-sizes-fit-requires
+sizes-fit-requires c κs = search needs
+
+returns-2 : tie.Need-returns-2
+returns-2 c = simp (c .before .before .before .if1 .left, ← c .before .before .numbers-fit .ensures, ← c .before .sizes-fit .ensures, c .if2 .left)
+
+size-of-requires : tie.Need-size-of-requires
+size-of-requires c κs = search needs
+
+returns-3 : tie.Need-returns-3
+returns-3 c =
+    let e = body-length (c .before .before .before .before .before .before .args .c) in
+    simp (c .before .before .before .before .before .if1 .left, ← c .before .before .before .before .numbers-fit .ensures, ← c .before .before .before .sizes-fit .ensures, c .before .before .if2 .taken, e, ← c .before .size-of .ensures, le-leb _ _ (c .if3 .taken))
+
+returns-4 : tie.Need-returns-4
+returns-4 c =
+    let e = body-length (c .before .before .before .before .before .before .args .c) in
+    simp (c .before .before .before .before .before .if1 .left, ← c .before .before .before .before .numbers-fit .ensures, ← c .before .before .before .sizes-fit .ensures, c .before .before .if2 .taken, e, ← c .before .size-of .ensures, lt-leb _ _ (c .if3 .left))
+
+pub write-verdict-spec : {M : Type 1} → statement M
+write-verdict-spec =
+    tie.close
+    (tie.spec
+    returns
+    numbers-fit-requires
+    sizes-fit-requires
+    returns-2
+    size-of-requires
+    returns-3
+    returns-4)

@@ -1,0 +1,3 @@
+pub mod Spans
+pub mod Read
+pub mod Write

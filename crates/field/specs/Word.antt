@@ -1,0 +1,12 @@
+-- A channel and a number together: a word of 16 bits, channel (2) and number (14), as packets carry them and as they are owed.
+-- Assumes nothing.
+use Prim.Native.Nat.{ℕ, _+_, _*_, _/_, _%_, _^_}
+
+abbrev pub channelOf : ℕ → ℕ
+channelOf w = w / 2 ^ 14
+
+abbrev pub numberOf : ℕ → ℕ
+numberOf w = w % 2 ^ 14
+
+abbrev pub wordOf : ℕ → ℕ → ℕ
+wordOf channel number = channel * 2 ^ 14 + number

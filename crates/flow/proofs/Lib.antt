@@ -1,0 +1,5 @@
+pub mod Fields
+pub mod Flows
+pub mod Messages
+pub mod Moves
+pub mod OneWay

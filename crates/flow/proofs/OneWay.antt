@@ -1,0 +1,90 @@
+-- One way of a channel over the real sides: a sending side with its rooms, the peer's receiving side with its own, what was taken and what
+-- was handed out. Each step, made with the 14 bits that a packet carries, keeps the flow between the two.
+-- Assumes nothing.
+use Prim.Native.Nat.{ℕ, _+_, _-_, _%_, _≤_, _<_}
+use mathlib.Core.Path.{_≡_, sym, ap, subst, _∙_}
+use mathlib.Core.Bool.{true}
+use mathlib.Core.List.{List, [], _∷_, _++_}
+use native.Mathlib.Nat.{sub-self, add-zero}
+use native.Mathlib.Omega.{arith}
+use lib.ListN.{length, take}
+use Rattle.ground.proofs.Picks.{pick-lt}
+use Rattle.channel.specs.Channel.{modulus}
+use Rattle.channel.specs.Distance.{placeOf}
+use Rattle.flow.specs.Flow.{Message, Full, Have, Flow, Data, waiting}
+use Rattle.places.specs.Places.{maskOf, bitOf, rankOf}
+use Rattle.channel.specs.Receiving.{ReceivingOk, arrivalOf, arrivedAs, nextSize, handedOut}
+use Rattle.channel.specs.Sending.{SendingOk, underWay, nextPlace, tookOne, heardBase, ackedBy}
+use Rattle.flow.specs.View.{Rooms, messageAt, messageOf, sends, receives, PutAt, PutAs, Roomy}
+use Rattle.places.specs.declared.Place.the-variants.{At}
+use Rattle.channel.specs.declared.receiving.Receiving.{Receiving}
+use Rattle.channel.specs.declared.sending.Sending.{Sending}
+use Rattle.flow.proofs.Fields.{heard-field, acked-field, arrival-field}
+use Rattle.flow.proofs.Flows.{take-flow, base-flow, ack-flow, arrive-flow, hand-flow, taken-all}
+use Rattle.flow.proofs.Messages.{full-of, message-in, message-full}
+use Rattle.flow.proofs.Moves.{took-moves, heard-moves, acked-moves, arrived-moves, handed-moves}
+use Rattle.places.proofs.Ranks.{rank-holds, rank-below}
+use Rattle.channel.proofs.Sized.{Sized}
+
+-- message R, as it is handed out, is the one that the view shows
+pub next-message : (w : ℕ) (room : Rooms) (r : Receiving) → r .first < w → bitOf (maskOf (r .stored)) 0 ≡ true
+    → receives w room r .stored (r .next) ≡ take (nextSize r) (room (r .first))
+next-message w room r l t =
+    ap (messageOf w room (r .sizes) (maskOf (r .stored)) (r .first)) (sub-self (r .next))
+    ∙ message-in w room (r .sizes) (maskOf (r .stored)) (r .first) 0 t
+    ∙ ap (messageAt room (r .sizes)) (pick-lt (λ (p : ℕ). p ≡ r .first) (r .first + 0) w (λ q. add-zero (r .first)) (λ q. absurd (omega arith)))
+
+-- a held message, found by its rank, is one of h to S - 1, and the view shows its octets
+pub ranked-message : (w : ℕ) (room : Rooms) (s : Sending) (rank i : ℕ) → SendingOk w s → rankOf (maskOf (s .unacked)) rank ≡ At i
+    → (i < underWay s) × (sends w room s .held (s .base + i) ≡ messageAt room (s .sizes) (placeOf (s .first) i w))
+ranked-message w room s rank i k e =
+    let back : s .base + i - s .base ≡ i = omega arith in (
+      rank-below (maskOf (s .unacked)) rank i (underWay s) (k .masked) e,
+      ap (messageOf w room (s .sizes) (maskOf (s .unacked)) (s .first)) back ∙ message-in w room (s .sizes) (maskOf (s .unacked)) (s .first) i
+          (rank-holds (maskOf (s .unacked)) rank i e .1),
+    )
+
+module _ (w stale : ℕ) (wide : w + stale ≤ modulus) (s : Sending) (r : Receiving) (out into : Rooms) (taken handed : List Message)
+    (k : SendingOk w s) (j : ReceivingOk w r) (f : Flow w (sends w out s) (receives w into r) taken handed) where
+  -- a message is taken
+  pub took-flow : (after : Rooms) (x : Message) → w ≤ length (s .sizes) → underWay s < w → 0 < length x → PutAt w out after (nextPlace w s) x
+      → Flow w (sends w after (tookOne w s (length x))) (receives w into r) (taken ++ (x ∷ [])) handed
+  took-flow after x long q l u = take-flow f (sends w after (tookOne w s (length x))) x (omega (arith, k)) (full-of x l)
+      (took-moves w out s k after x long q u)
+
+  -- a base is heard that the peer has reached and that is not stale
+  pub heard-flow : (b : ℕ) → b ≤ r .next → s .taken ≤ b + stale → Flow w (sends w out (heardBase w s (b % modulus))) (receives w into r) taken handed
+  heard-flow b l fresh =
+      rw (heard-field w s b) (base-flow f (sends w out (heardBase w s b)) b l (heard-moves w out s k stale wide b (omega (arith, f .mid)) fresh))
+
+  -- an acknowledgement is heard of a message that has come and that is not stale
+  pub acked-flow : (n : ℕ) → Have (receives w into r) n → n < s .taken → s .taken ≤ n + stale
+      → Flow w (sends w out (ackedBy s (n % modulus))) (receives w into r) taken handed
+  acked-flow n have l fresh =
+      rw (acked-field s n) (ack-flow f (sends w out (ackedBy s n)) n have (acked-moves w out s k stale wide n l fresh))
+
+  -- a message arrives that was taken and is not stale
+  pub arrived-flow : (z : ℕ) → Sized w z (r .sizes) (maskOf (r .stored)) (r .first) → Roomy w z into → (after : Rooms) (n : ℕ) (x : Message)
+      → Data taken n x → s .taken ≤ n + stale
+      → w ≤ length (r .sizes) → PutAs w r (arrivalOf w r (n % modulus)) into after x
+      → Flow w (sends w out s) (receives w after (arrivedAs w r (arrivalOf w r (n % modulus)) (length x))) taken handed
+  arrived-flow z sized roomy after n x d fresh long =
+      rw (arrival-field w r n) (λ u. arrive-flow f (receives w after (arrivedAs w r (arrivalOf w r n) (length x))) n x d
+      (arrived-moves w into r j z stale (s .taken) wide (f .mid) (omega (arith, f .low, f .high)) sized roomy after n x
+      (omega (arith, d .known, f .count)) fresh long u))
+
+  -- message R is handed out
+  pub handed-flow : (z : ℕ) → Sized w z (r .sizes) (maskOf (r .stored)) (r .first) → Roomy w z into → bitOf (maskOf (r .stored)) 0 ≡ true
+      → Flow w (sends w out s) (receives w into (handedOut w r)) taken (handed ++ (take (nextSize r) (into (r .first)) ∷ []))
+  handed-flow z sized roomy t =
+      let e = next-message w into r (j .placed) t in
+      rw e at (hand-flow f (receives w into (handedOut w r)) (full e) (handed-moves w into r j))
+    where
+      full : receives w into r .stored (r .next) ≡ take (nextSize r) (into (r .first)) → Full (receives w into r .stored (r .next))
+      full e =
+          subst (λ (i : ℕ). Full (messageOf w into (r .sizes) (maskOf (r .stored)) (r .first) i)) (sym (sub-self (r .next)))
+          (message-full w into (r .sizes) (maskOf (r .stored)) (r .first) z (j .placed) sized roomy 0 (omega (arith, j .placed)) t)
+
+  -- the messages taken are those handed out, in order and octet for octet, followed by those that wait
+  pub in-order : taken ≡ handed ++ waiting (sends w out s) (receives w into r)
+  in-order = taken-all f

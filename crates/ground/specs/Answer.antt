@@ -1,0 +1,42 @@
+-- What a call answers, in document 01's terms, and what an enum's value stands for.
+-- Assumes nothing.
+use Prim.Native.Nat.{ℕ}
+use mathlib.Core.Path.{_≡_}
+use mathlib.Core.List.{List, [], _∷_, _++_}
+use lib.ListN.{length, drop}
+use Rattle.ground.specs.Refusal.{numberOf, Test, verdict, settle}
+use Rattle.ground.specs.declared.Refusal.{Refusal}
+use Rattle.ground.specs.declared.Written.{Written}
+use Rattle.ground.specs.declared.Written.the-variants.{Wrote, Refused}
+
+-- the refusal's number, 0 where the call is accepted, and the values that it answers
+pub record Answer : Type 0 where
+  pub number : ℕ
+  pub values : List ℕ
+
+abbrev pub accepted : List ℕ → Answer
+accepted vs = record { number = 0; values = vs }
+
+-- "Each refusal returns its number alone"
+abbrev pub refused : Refusal → Answer
+refused r = record { number = numberOf r; values = [] }
+
+-- An answer r is what the tests in their order come to: refused, or this value; both as an enum's case and as number and values.
+pub record Gives {A : Type 0} (answerOf : A → Answer) (ts : List Test) (refuse : Refusal → A) (value r : A) : Type 0 where
+  pub is : r ≡ settle (verdict ts) refuse value
+  pub answer : answerOf r ≡ settle (verdict ts) refused (answerOf value)
+
+-- "the answer gives the count written"
+abbrev pub writtenAnswer : Written → Answer
+writtenAnswer (Wrote n) = accepted (n ∷ [])
+writtenAnswer (Refused r) = refused r
+
+-- "An output's octets past what is written stay"; a refusal changes no octet
+abbrev pub contents : Written → List ℕ → List ℕ → List ℕ
+contents (Wrote n) octets l = octets ++ drop n l
+contents (Refused r) octets l = l
+
+-- What a call that writes octets into an output promises: its answer, and all that the output holds then.
+pub record Writes (ts : List Test) (octets before after : List ℕ) (r : Written) : Type 0 where
+  pub gives : Gives writtenAnswer ts Refused (Wrote (length octets)) r
+  pub leaves : after ≡ contents r octets before

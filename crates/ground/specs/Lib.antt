@@ -1,0 +1,4 @@
+pub mod Every
+pub mod Pick
+pub mod Refusal
+pub mod Answer

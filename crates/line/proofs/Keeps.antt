@@ -1,0 +1,182 @@
+-- What BOOK asks of an open line as facts, and that opening and every change of mode keep it.
+-- Assumes nothing.
+use Prim.Native.Nat.{ℕ}
+use mathlib.Core.Path.{_≡_, refl}
+use mathlib.Core.Bool.{Bool, true, false}
+use lib.Dec.{lit≤, lit<, eqb}
+use borrow.Author.Tests.{ne-eqb, eqb-false}
+use Rattle.ground.specs.Pick.{pick}
+use Rattle.ground.proofs.Picks.{each, together, pick-by}
+use Rattle.ground.proofs.Either.{or-second, or-either}
+use Rattle.channel.specs.Channel.{windowOf}
+use Rattle.channel.specs.Sending.{sendingFits, emptiedSending}
+use Rattle.channel.specs.Receiving.{receivingFits, emptiedReceiving}
+use Rattle.channel.specs.declared.sending.Sending.{Sending}
+use Rattle.channel.specs.declared.receiving.Receiving.{Receiving}
+use Rattle.channel.proofs.Keeps.{fresh-sending, fresh-receiving, emptied-keeps, cleared-keeps}
+use Rattle.mode.specs.Given.{modem}
+use Rattle.mode.specs.Fit.{modesFit}
+use Rattle.mode.specs.Moved.{channelsFor}
+use Rattle.mode.specs.declared.Modes.{Modes}
+use Rattle.mode.specs.declared.Channels.{Channels}
+use Rattle.mode.proofs.Fits.{opened-fits}
+use Rattle.mode.proofs.Emptying.{channels-by}
+use Rattle.owed.specs.Owed.{owedFits}
+use Rattle.owed.proofs.Steps.{fresh-fits}
+use Rattle.line.specs.Line.{openedLine, sendingOf, receivingOf, withSides, withSending, withReceiving}
+use Rattle.line.specs.Fit.{largest, settingsFit, idle, lineTests, lineFits}
+use Rattle.line.specs.Mode.{steppedTo}
+use Rattle.line.specs.declared.Line.{Line}
+use Rattle.line.specs.declared.Settings.{Settings}
+
+pub record LineOk (l : Line) : Type 0 where
+  pub settings : settingsFit (l .identifier) (l .kind) ≡ true
+  pub modes : modesFit (l .modes) ≡ true
+  pub sending1 : sendingFits (windowOf 1) largest (l .sending1) ≡ true
+  pub sending2 : sendingFits (windowOf 2) largest (l .sending2) ≡ true
+  pub receiving1 : receivingFits (windowOf 1) largest (l .receiving1) ≡ true
+  pub receiving2 : receivingFits (windowOf 2) largest (l .receiving2) ≡ true
+  pub owed : owedFits (l .owed) ≡ true
+  pub quiet : (l .modes .local ≡ modem → ⊥) → idle l ≡ true
+
+-- the test decides the facts
+pub line-ok : (l : Line) → l .opened ≡ true → lineFits l ≡ true → LineOk l
+unfolding lineFits
+line-ok l o e =
+    let t = each (lineTests l) (rw o at e) in
+    record {
+      settings = t .0;
+      modes = t .1 .0;
+      sending1 = t .1 .1 .0;
+      sending2 = t .1 .1 .1 .0;
+      receiving1 = t .1 .1 .1 .1 .0;
+      receiving2 = t .1 .1 .1 .1 .1 .0;
+      owed = t .1 .1 .1 .1 .1 .1 .0;
+      quiet = λ n. or-second (eqb (l .modes .local) modem) (idle l) (t .1 .1 .1 .1 .1 .1 .1 .0) (ne-eqb _ _ n);
+    }
+
+pub ok-line : (l : Line) → LineOk l → lineFits l ≡ true
+unfolding lineFits
+ok-line l k =
+    pick-by (λ (t : Bool). t ≡ true) (l .opened)
+    (λ _. together (lineTests l) (
+      k .settings,
+      (k .modes, (k .sending1, (k .sending2, (k .receiving1, (k .receiving2, (k .owed, (or-either (eqb (l .modes .local) modem) (idle l) (λ e. k .quiet (eqb-false _ _ e)), tt))))))),
+    ))
+    (λ _. refl)
+
+-- BOOK skips a closed line
+pub closed-fits : (l : Line) → l .opened ≡ false → lineFits l ≡ true
+unfolding lineFits
+closed-fits l o = rw o
+
+-- a line just opened
+pub opened-ok : (s : Settings) (time : ℕ) → settingsFit (s .identifier) (s .kind) ≡ true → LineOk (openedLine s time)
+opened-ok s time f =
+    record {
+      settings = f;
+      modes = opened-fits (s .vbd) (s .relay) time;
+      sending1 = fresh-sending 32 largest (lit≤ tt) (lit< tt);
+      sending2 = fresh-sending 8 largest (lit≤ tt) (lit< tt);
+      receiving1 = fresh-receiving 32 largest (lit≤ tt) (lit< tt);
+      receiving2 = fresh-receiving 8 largest (lit≤ tt) (lit< tt);
+      owed = fresh-fits;
+      quiet = λ n. refl;
+    }
+
+-- a change of mode, with what it says of the channels
+pub stepped-ok : (l : Line) → LineOk l → (m : Modes) → modesFit m ≡ true → LineOk (steppedTo l m (channelsFor (l .modes .local) (m .local)))
+unfolding steppedTo emptiedSending emptiedReceiving
+stepped-ok l k m f =
+    channels-by (λ (c : Channels). LineOk (steppedTo l m c)) (l .modes .local) (m .local)
+    (λ a b. record {
+      settings = k .settings;
+      modes = f;
+      sending1 = fresh-sending 32 largest (lit≤ tt) (lit< tt);
+      sending2 = fresh-sending 8 largest (lit≤ tt) (lit< tt);
+      receiving1 = fresh-receiving 32 largest (lit≤ tt) (lit< tt);
+      receiving2 = fresh-receiving 8 largest (lit≤ tt) (lit< tt);
+      owed = fresh-fits;
+      quiet = λ n. refl;
+    })
+    (λ a b. record {
+      settings = k .settings;
+      modes = f;
+      sending1 = emptied-keeps 32 largest (lit≤ tt) (l .sending1) (k .sending1);
+      sending2 = emptied-keeps 8 largest (lit≤ tt) (l .sending2) (k .sending2);
+      receiving1 = cleared-keeps 32 largest (lit≤ tt) (l .receiving1) (k .receiving1);
+      receiving2 = cleared-keeps 8 largest (lit≤ tt) (l .receiving2) (k .receiving2);
+      owed = fresh-fits;
+      quiet = λ n. refl;
+    })
+    (λ a b. stays (λ n. absurd (n b)))
+    (λ a b. stays (λ n. k .quiet a))
+  where
+    stays : ((m .local ≡ modem → ⊥) → idle l ≡ true) → LineOk (record { opened = l .opened; identifier = l .identifier; kind = l .kind; modes = m; sending1 = l .sending1; sending2 = l .sending2; receiving1 = l .receiving1; receiving2 = l .receiving2; owed = l .owed })
+    stays q =
+        record {
+          settings = k .settings;
+          modes = f;
+          sending1 = k .sending1;
+          sending2 = k .sending2;
+          receiving1 = k .receiving1;
+          receiving2 = k .receiving2;
+          owed = k .owed;
+          quiet = q;
+        }
+
+-- in modem relay a side may be put anew
+module _ (l : Line) (k : LineOk l) (inside : l .modes .local ≡ modem) (channel : ℕ) where
+  pub sending-side : sendingFits (windowOf channel) largest (sendingOf l channel) ≡ true
+  sending-side = go (eqb channel 1)
+    where
+      go : (t : Bool) → sendingFits (pick t 32 8) largest (pick t (l .sending1) (l .sending2)) ≡ true
+      go true = k .sending1
+      go false = k .sending2
+
+  pub receiving-side : receivingFits (windowOf channel) largest (receivingOf l channel) ≡ true
+  receiving-side = go (eqb channel 1)
+    where
+      go : (t : Bool) → receivingFits (pick t 32 8) largest (pick t (l .receiving1) (l .receiving2)) ≡ true
+      go true = k .receiving1
+      go false = k .receiving2
+
+  pub with-sending-ok : (s : Sending) → sendingFits (windowOf channel) largest s ≡ true → LineOk (withSending l channel s)
+  with-sending-ok s = go (eqb channel 1)
+    where
+      anew : (a b : Sending) → sendingFits 32 largest a ≡ true → sendingFits 8 largest b ≡ true → LineOk (withSides l a b (l .receiving1) (l .receiving2))
+      anew a b p q =
+          record {
+            settings = k .settings;
+            modes = k .modes;
+            sending1 = p;
+            sending2 = q;
+            receiving1 = k .receiving1;
+            receiving2 = k .receiving2;
+            owed = k .owed;
+            quiet = λ n. absurd (n inside);
+          }
+
+      go : (t : Bool) → sendingFits (pick t 32 8) largest s ≡ true → LineOk (pick t (withSides l s (l .sending2) (l .receiving1) (l .receiving2)) (withSides l (l .sending1) s (l .receiving1) (l .receiving2)))
+      go true p = anew s (l .sending2) p (k .sending2)
+      go false p = anew (l .sending1) s (k .sending1) p
+
+  pub with-receiving-ok : (r : Receiving) → receivingFits (windowOf channel) largest r ≡ true → LineOk (withReceiving l channel r)
+  with-receiving-ok r = go (eqb channel 1)
+    where
+      anew : (a b : Receiving) → receivingFits 32 largest a ≡ true → receivingFits 8 largest b ≡ true → LineOk (withSides l (l .sending1) (l .sending2) a b)
+      anew a b p q =
+          record {
+            settings = k .settings;
+            modes = k .modes;
+            sending1 = k .sending1;
+            sending2 = k .sending2;
+            receiving1 = p;
+            receiving2 = q;
+            owed = k .owed;
+            quiet = λ n. absurd (n inside);
+          }
+
+      go : (t : Bool) → receivingFits (pick t 32 8) largest r ≡ true → LineOk (pick t (withSides l (l .sending1) (l .sending2) r (l .receiving2)) (withSides l (l .sending1) (l .sending2) (l .receiving1) r))
+      go true p = anew r (l .receiving2) p (k .receiving2)
+      go false p = anew (l .receiving1) r (k .receiving1) p

@@ -1,0 +1,47 @@
+-- What BOOK (row 18) asks of one line. "BOOK skips" a closed one.
+-- Assumes nothing.
+use Prim.Native.Nat.{ℕ}
+use mathlib.Core.Bool.{Bool, true, _||_}
+use mathlib.Core.List.{List, [], _∷_}
+use lib.Dec.{leb, eqb}
+use Rattle.ground.specs.Pick.{pick, allHold}
+use Rattle.channel.specs.Channel.{windowOf}
+use Rattle.channel.specs.Sending.{sendingFits}
+use Rattle.channel.specs.Receiving.{receivingFits}
+use Rattle.mode.specs.Given.{modem}
+use Rattle.mode.specs.Fit.{modesFit}
+use Rattle.owed.specs.Owed.{owedFits}
+use Rattle.line.specs.declared.Line.{Line}
+use Rattle.places.specs.Places.{maskOf}
+
+-- "A message has 1 to 132 octets"
+abbrev pub largest : ℕ
+largest = 132
+
+-- "identifier 0 to 127, payload type 96 to 127"
+abbrev pub settingsFit : ℕ → ℕ → Bool
+settingsFit identifier kind = allHold (leb identifier 127 ∷ leb 96 kind ∷ leb kind 127 ∷ [])
+
+-- nothing is held, stored or owed
+abbrev pub idle : Line → Bool
+idle l =
+    allHold
+    (eqb (maskOf (l .sending1 .unacked)) 0 ∷ eqb (maskOf (l .sending2 .unacked)) 0
+    ∷ eqb (maskOf (l .receiving1 .stored)) 0 ∷ eqb (maskOf (l .receiving2 .stored)) 0
+    ∷ eqb (l .owed .count) 0 ∷ [])
+
+-- the clauses of an open line: its settings, its modes, its sides, what it owes, and "anything held, stored or owed outside m"
+abbrev pub lineTests : Line → List Bool
+lineTests l =
+    settingsFit (l .identifier) (l .kind)
+    ∷ modesFit (l .modes)
+    ∷ sendingFits (windowOf 1) largest (l .sending1)
+    ∷ sendingFits (windowOf 2) largest (l .sending2)
+    ∷ receivingFits (windowOf 1) largest (l .receiving1)
+    ∷ receivingFits (windowOf 2) largest (l .receiving2)
+    ∷ owedFits (l .owed)
+    ∷ (eqb (l .modes .local) modem || idle l)
+    ∷ []
+
+unfoldable pub lineFits : Line → Bool
+lineFits l = pick (l .opened) (allHold (lineTests l)) true

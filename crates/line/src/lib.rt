@@ -1,0 +1,205 @@
+// One line's record, by value: its settings, its modes, two sending and two receiving sides, and what it owes.
+// Here is what opening, closing and a change of mode make of it, and what BOOK asks of it. Relay calls, books, octets and
+// the order of refusals are left to others.
+ghost use mathlib.Core.Path.{_≡_};
+ghost use Rattle.line.specs.Line.{closedLine, openedLine, sendingOf, withSending, receivingOf, withReceiving};
+ghost use Rattle.line.specs.Fit.{settingsFit, idle, lineFits};
+ghost use Rattle.line.specs.Mode.{steppedTo};
+use channel::Channel;
+use channel::Receiving;
+use channel::Sending;
+use mode::Channels;
+use mode::Modes;
+use owed::Owed;
+
+// What opening names, besides the line and the time.
+pub struct Settings {
+    // 0 to 127.
+    pub identifier: u8,
+    // The payload type, 96 to 127.
+    pub kind: u8,
+    // VBD is offered.
+    pub vbd: bool,
+    // Modem relay is offered.
+    pub relay: bool,
+}
+
+pub struct Line {
+    // The line is open. Of a closed line nothing else is read.
+    pub opened: bool,
+    // 0 to 127; no other open line and no resting one has it.
+    pub identifier: u8,
+    // The payload type, 96 to 127.
+    pub kind: u8,
+    pub modes: Modes,
+    // What is sent and what is received on channel 1, and on channel 2.
+    pub sending1: Sending,
+    pub sending2: Sending,
+    pub receiving1: Receiving,
+    pub receiving2: Receiving,
+    // The acknowledgements owed, for both channels.
+    pub owed: Owed,
+}
+
+// Are identifier and payload type within their spans?
+pub fn settings_fit(identifier: u8, kind: u8) -> bool
+    ensures { λ r. ⌜ r ≡ settingsFit identifier kind ⌝ }
+{
+    (identifier <= 127) & (96 <= kind) & (kind <= 127)
+}
+
+impl Line {
+    // A closed line, as in a fresh book.
+    pub fn closed() -> Line
+        ensures { λ r. ⌜ r ≡ closedLine ⌝ }
+    {
+        let modes = Modes::closed();
+        let sending = Sending::fresh();
+        let receiving = Receiving::fresh();
+        let owed = Owed::fresh();
+        Line {
+            opened: false,
+            identifier: 0,
+            kind: 0,
+            modes,
+            sending1: sending,
+            sending2: sending,
+            receiving1: receiving,
+            receiving2: receiving,
+            owed,
+        }
+    }
+
+    // A line just opened.
+    pub fn opened_with(settings: Settings, time: u64) -> Line
+        ensures { λ r. ⌜ r ≡ openedLine settings time ⌝ }
+    {
+        let modes = Modes::opened(settings.vbd, settings.relay, time);
+        let closed = Line::closed();
+        Line {
+            opened: true,
+            identifier: settings.identifier,
+            kind: settings.kind,
+            modes,
+            ..closed
+        }
+    }
+
+    // The sending side of channel 1, or else of 2.
+    pub fn sending(self, channel: u8) -> Sending
+        ensures { λ r. ⌜ r ≡ sendingOf self channel ⌝ }
+    {
+        if channel == 1 {
+            self.sending1
+        } else {
+            self.sending2
+        }
+    }
+
+    // The line with another sending side.
+    pub fn with_sending(self, channel: u8, side: Sending) -> Line
+        ensures { λ r. ⌜ r ≡ withSending self channel side ⌝ }
+    {
+        let mut next = self;
+        if channel == 1 {
+            next.sending1 = side;
+            return next;
+        }
+        next.sending2 = side;
+        next
+    }
+
+    // The receiving side of channel 1, or else of 2.
+    pub fn receiving(self, channel: u8) -> Receiving
+        ensures { λ r. ⌜ r ≡ receivingOf self channel ⌝ }
+    {
+        if channel == 1 {
+            self.receiving1
+        } else {
+            self.receiving2
+        }
+    }
+
+    // The line with another receiving side.
+    pub fn with_receiving(self, channel: u8, side: Receiving) -> Line
+        ensures { λ r. ⌜ r ≡ withReceiving self channel side ⌝ }
+    {
+        let mut next = self;
+        if channel == 1 {
+            next.receiving1 = side;
+            return next;
+        }
+        next.receiving2 = side;
+        next
+    }
+}
+
+impl Line {
+    // Nothing is held, stored or owed.
+    fn idle(self) -> bool
+        ensures { λ r. ⌜ r ≡ idle self ⌝ }
+    {
+        (self.sending1.unacked.bits == 0)
+            & (self.sending2.unacked.bits == 0)
+            & (self.receiving1.stored.bits == 0)
+            & (self.receiving2.stored.bits == 0)
+            & (self.owed.count == 0)
+    }
+
+    // What BOOK asks of a line: nothing of a closed one.
+    pub fn fits(self) -> bool
+        ensures { λ r. ⌜ r ≡ lineFits self ⌝ }
+    {
+        if !self.opened {
+            return true;
+        }
+        let settings = settings_fit(self.identifier, self.kind);
+        let modes = self.modes.fits();
+        let a = self.sending1.fits(Channel::WINDOW1, Channel::LARGEST);
+        let b = self.sending2.fits(Channel::WINDOW2, Channel::LARGEST);
+        let c = self.receiving1.fits(Channel::WINDOW1, Channel::LARGEST);
+        let d = self.receiving2.fits(Channel::WINDOW2, Channel::LARGEST);
+        let owed = self.owed.fits();
+        let idle = self.idle();
+        settings & modes & a & b & c & d & owed & ((self.modes.local == Modes::MODEM) | idle)
+    }
+
+    // The line once its modes are these, and its channels stay, start fresh or are emptied.
+    pub fn stepped(self, modes: Modes, channels: Channels) -> Line
+        ensures { λ r. ⌜ r ≡ steppedTo self modes channels ⌝ }
+    {
+        match channels {
+            Channels::Stay => Line { modes, ..self },
+            Channels::Fresh => {
+                let sending = Sending::fresh();
+                let receiving = Receiving::fresh();
+                let owed = Owed::fresh();
+                Line {
+                    modes,
+                    sending1: sending,
+                    sending2: sending,
+                    receiving1: receiving,
+                    receiving2: receiving,
+                    owed,
+                    ..self
+                }
+            }
+            Channels::Emptied => {
+                let sending1 = self.sending1.emptied();
+                let sending2 = self.sending2.emptied();
+                let receiving1 = self.receiving1.emptied();
+                let receiving2 = self.receiving2.emptied();
+                let owed = Owed::fresh();
+                Line {
+                    modes,
+                    sending1,
+                    sending2,
+                    receiving1,
+                    receiving2,
+                    owed,
+                    ..self
+                }
+            }
+        }
+    }
+}

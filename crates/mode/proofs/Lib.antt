@@ -1,0 +1,14 @@
+pub mod Answers
+pub mod Called
+pub mod Emptying
+pub mod Ending
+pub mod Fits
+pub mod Generation
+pub mod Givens
+pub mod Left
+pub mod Permitted
+pub mod Recovering
+pub mod Refusing
+pub mod Steps
+pub mod Timing
+pub mod Tries

@@ -1,0 +1,31 @@
+-- What BOOK reads of the modes of an open line, clause for clause.
+-- Assumes nothing.
+use mathlib.Core.Bool.{Bool, _||_, not}
+use mathlib.Core.List.{List, [], _∷_}
+use lib.Dec.{eqb, leb}
+use Rattle.ground.specs.Pick.{allHold}
+use Rattle.mode.specs.declared.Modes.{Modes}
+use Rattle.mode.specs.Given.{audio, voiceband, modem, text}
+use Rattle.mode.specs.Moved.{over}
+
+-- row 18 BOOK, of what it reads of the modes
+abbrev pub fitTests : Modes → List Bool
+fitTests l =
+    -- "a mode .. or try outside this paper's spans"
+    leb audio (l .local)
+    ∷ leb (l .local) modem
+    ∷ leb (l .remote) text
+    ∷ leb (l .tries) over
+    -- "S is a mode not offered"
+    ∷ (not (eqb (l .local) voiceband) || l .vbd)
+    ∷ (not (eqb (l .local) modem) || l .relay)
+    -- "or not a in recovery or once ended"
+    ∷ (eqb (l .tries) 0 || eqb (l .local) audio)
+    -- "a difference .. timed after the line's last"
+    ∷ (eqb (l .local) (l .remote) || leb (l .since) (l .last))
+    -- "or try timed after the line's last"
+    ∷ (eqb (l .tries) 0 || leb (l .tried) (l .last))
+    ∷ []
+
+unfoldable pub modesFit : Modes → Bool
+modesFit l = allHold (fitTests l)

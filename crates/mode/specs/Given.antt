@@ -1,0 +1,54 @@
+-- What an indication gives: document 01's choices among those that Table C.2 permits, and what a line offers.
+-- Assumes nothing.
+use Prim.Native.Nat.{ℕ}
+use mathlib.Core.Bool.{Bool, _&&_, _||_, not}
+use lib.Dec.{eqb}
+use Rattle.ground.specs.Pick.{pick}
+use Rattle.mode.specs.declared.Modes.{Modes}
+
+-- the modes by Table C.1's event numbers; 0 is i
+abbrev pub unknown : ℕ
+unknown = 0
+
+abbrev pub audio : ℕ
+audio = 1
+
+abbrev pub voiceband : ℕ
+voiceband = 2
+
+abbrev pub modem : ℕ
+modem = 3
+
+abbrev pub fax : ℕ
+fax = 4
+
+abbrev pub text : ℕ
+text = 5
+
+-- a local mode that the line offers: a always, v and m as opening named them, no other
+abbrev pub offered : Modes → ℕ → Bool
+offered l k = eqb k audio || (eqb k voiceband && l .vbd) || (eqb k modem && l .relay)
+
+-- "v gives v if offered, else a"
+abbrev pub asVoiceband : Modes → ℕ
+asVoiceband l = pick (l .vbd) voiceband audio
+
+-- m is "offered and the line has not been in m before or is in it now"
+abbrev pub mayRelay : Modes → Bool
+mayRelay l = l .relay && (not (l .left) || eqb (l .local) modem)
+
+-- "m gives m if" it may; "else as for v"
+abbrev pub asModem : Modes → ℕ
+asModem l = pick (mayRelay l) modem (asVoiceband l)
+
+-- "f and t give as for v": the one place where what fax and text give is chosen
+unfoldable pub faxOrText : Modes → ℕ
+faxOrText l = asVoiceband l
+
+-- "On an indication heard": a gives a, v as above, m as above, f and t alike
+unfoldable pub given : Modes → ℕ → ℕ
+given l k =
+    pick (eqb k audio) audio
+    (pick (eqb k voiceband) (asVoiceband l)
+    (pick (eqb k modem) (asModem l)
+    (faxOrText l)))

@@ -1,0 +1,10 @@
+pub mod Given
+pub mod Moved
+pub mod Fit
+pub mod Indication
+pub mod Request
+pub mod Recovery
+pub mod Says
+pub mod Acts
+pub mod TableC2
+pub mod Generation

@@ -1,0 +1,229 @@
+// The media modes of one line, by value: what an indication, a request and a tick make of them, and recovery.
+// It follows document 01, 'Media modes' (V.150.1, C.5.3 and C.5.4.1). Each call gives its answer, the next modes, and what is to
+// become of the line's channels. What a channel, an octet, a line or a book is, and NOLINE, are left to others.
+ghost use mathlib.Core.Path.{_≡_};
+ghost use Rattle.mode.specs.Moved.{openedModes, closedModes, enters, leaves, channelsFor, timed, moved, trying, stayed, ended};
+ghost use Rattle.mode.specs.Fit.{modesFit};
+use ground::Refusal;
+
+mod indication; // indication.rt: what an indication gives, and the call `hear`
+mod recovery; // recovery.rt: what a tick finds, and the call `tick`
+mod request; // request.rt: what may be requested, and the call `ask`
+
+// What a line remembers of its media modes.
+pub struct Modes {
+    // VBD is offered, as opening named it.
+    pub vbd: bool,
+    // Modem relay is offered, as opening named it.
+    pub relay: bool,
+    // S, the local mode: 1 a, 2 v or 3 m.
+    pub local: u8,
+    // The remote mode, as last heard: 1 a to 5 t, or 0 for i.
+    pub remote: u8,
+    // Modem relay was left in this opening.
+    pub left: bool,
+    // 0 no recovery, 1 to 5 recovering at that try, 6 ended by recovery.
+    pub tries: u8,
+    // When the present difference of the modes began; read only while they differ, and then at most `last`.
+    pub since: u64,
+    // When the last try was made; read only from try 1 on, and then at most `last`.
+    pub tried: u64,
+    // The line's last time, in milliseconds: that of its opening or of its last accepted mode call.
+    pub last: u64,
+}
+
+// What a line must do with its channels after a mode call.
+pub enum Channels {
+    // They stay.
+    Stay,
+    // m was entered: both start fresh.
+    Fresh,
+    // m was left: stores and owed list are emptied; counts stay.
+    Emptied,
+}
+
+// What an indication heard is answered.
+pub enum Heard {
+    // S, and whether a P' notice is to be sent.
+    Mode(u8, bool),
+    Refused(Refusal),
+}
+
+// What a local request is answered.
+pub enum Asked {
+    // S.
+    Mode(u8),
+    Refused(Refusal),
+}
+
+// What a tick is answered.
+pub enum Ticked {
+    // Nothing is due.
+    Quiet,
+    // An audio indication is due: that try, 1 to 5.
+    Audio(u8),
+    // The line has ended.
+    Ended,
+    Refused(Refusal),
+}
+
+// A call's outcome: its answer, the next modes, and what becomes of the channels.
+pub struct Hearing {
+    pub answer: Heard,
+    pub modes: Modes,
+    pub channels: Channels,
+}
+
+pub struct Asking {
+    pub answer: Asked,
+    pub modes: Modes,
+    pub channels: Channels,
+}
+
+pub struct Ticking {
+    pub answer: Ticked,
+    pub modes: Modes,
+    pub channels: Channels,
+}
+
+// The local mode goes from `before` to `after` and enters m.
+fn enters_m(before: u8, after: u8) -> bool
+    ensures { λ r. ⌜ r ≡ enters before after ⌝ }
+{
+    (before != Modes::MODEM) & (after == Modes::MODEM)
+}
+
+// The local mode goes from `before` to `after` and leaves m.
+fn leaves_m(before: u8, after: u8) -> bool
+    ensures { λ r. ⌜ r ≡ leaves before after ⌝ }
+{
+    (before == Modes::MODEM) & (after != Modes::MODEM)
+}
+
+// What becomes of the channels, by the local mode before and after.
+fn channels_for(before: u8, after: u8) -> Channels
+    ensures { λ r. ⌜ r ≡ channelsFor before after ⌝ }
+{
+    if enters_m(before, after) {
+        return Channels::Fresh;
+    }
+    if leaves_m(before, after) {
+        return Channels::Emptied;
+    }
+    Channels::Stay
+}
+
+impl Modes {
+    // The modes, as Table C.1 numbers them; 0 is i.
+    pub const UNKNOWN: u8 = 0;
+
+    pub const AUDIO: u8 = 1;
+
+    pub const VOICEBAND: u8 = 2;
+
+    pub const MODEM: u8 = 3;
+
+    pub const FAX: u8 = 4;
+
+    pub const TEXT: u8 = 5;
+
+    // Recovery (C.5.4.1): T2, the difference that is borne; T1, from try to try; N, the tries; and the mark of an ended line.
+    pub const BORNE: u64 = 1000;
+
+    pub const REPEAT: u64 = 1000;
+
+    pub const TRIES: u8 = 5;
+
+    pub const ENDED: u8 = 6;
+
+    // The modes of a line just opened.
+    pub fn opened(vbd: bool, relay: bool, time: u64) -> Modes
+        ensures { λ r. ⌜ r ≡ openedModes vbd relay time ⌝ }
+    {
+        Modes {
+            vbd,
+            relay,
+            local: Modes::AUDIO,
+            remote: Modes::AUDIO,
+            left: false,
+            tries: 0,
+            since: 0,
+            tried: 0,
+            last: time,
+        }
+    }
+
+    // The modes of a closed line.
+    pub fn closed() -> Modes
+        ensures { λ r. ⌜ r ≡ closedModes ⌝ }
+    {
+        Modes::opened(false, false, 0)
+    }
+
+    // What BOOK asks of the modes of an open line.
+    pub fn fits(self) -> bool
+        ensures { λ r. ⌜ r ≡ modesFit self ⌝ }
+    {
+        (Modes::AUDIO <= self.local)
+            & (self.local <= Modes::MODEM)
+            & (self.remote <= Modes::TEXT)
+            & (self.tries <= Modes::ENDED)
+            & ((self.local != Modes::VOICEBAND) | self.vbd)
+            & ((self.local != Modes::MODEM) | self.relay)
+            & ((self.tries == 0) | (self.local == Modes::AUDIO))
+            & ((self.local == self.remote) | (self.since <= self.last))
+            & ((self.tries == 0) | (self.tried <= self.last))
+    }
+
+    // When the present difference began, once the modes are these at that time.
+    fn timed(self, local: u8, remote: u8, time: u64) -> u64
+        ensures { λ r. ⌜ r ≡ timed self local remote time ⌝ }
+    {
+        if self.local == self.remote {
+            if local == remote { self.since } else { time }
+        } else {
+            if local == remote { 0 } else { self.since }
+        }
+    }
+
+    // The record once the modes are these at that time.
+    fn moved(self, local: u8, remote: u8, time: u64) -> Modes
+        ensures { λ r. ⌜ r ≡ moved self local remote time ⌝ }
+    {
+        let left = self.left | leaves_m(self.local, local);
+        let since = self.timed(local, remote, time);
+        Modes {
+            local,
+            remote,
+            left,
+            since,
+            last: time,
+            ..self
+        }
+    }
+
+    // The record at that try, the last try made at that time.
+    fn trying(self, tries: u8, time: u64) -> Modes
+        ensures { λ r. ⌜ r ≡ trying self tries time ⌝ }
+    {
+        Modes {
+            tries,
+            tried: time,
+            ..self
+        }
+    }
+
+    // The record at a later time, with nothing else changed.
+    fn stayed(self, time: u64) -> Modes
+        ensures { λ r. ⌜ r ≡ stayed self time ⌝ }
+    {
+        Modes { last: time, ..self }
+    }
+
+    // The line has ended by recovery.
+    fn ended(self) -> bool
+        ensures { λ r. ⌜ r ≡ ended self ⌝ }
+    {
+        Modes::TRIES < self.tries
+    }
+}

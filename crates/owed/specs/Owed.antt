@@ -1,0 +1,64 @@
+-- The owed acknowledgements of a line as a list of words, oldest first.
+-- Assumes nothing.
+use Prim.Native.Nat.{ℕ, min}
+use mathlib.Core.Bool.{Bool, true, false, not, _&&_, _||_}
+use mathlib.Core.List.{List, [], _∷_, _++_}
+use lib.Dec.{eqb, leb}
+use lib.ListN.{length, getD, take, drop, replicate}
+use Rattle.ground.specs.Pick.{pick}
+use Rattle.field.specs.Word.{channelOf}
+use Rattle.owed.specs.declared.Owed.{Owed}
+use Rattle.owed.specs.declared.Three.{Three}
+
+-- the entries there are; what stands behind them is of no account
+abbrev pub owedOf : Owed → List ℕ
+owedOf o = take (o .count) (o .numbers)
+
+abbrev pub freshOwed : Owed
+freshOwed = record { numbers = replicate 64 0; count = 0 }
+
+-- the same record with another list: behind it stands what stood there
+abbrev pub withList : Owed → List ℕ → Owed
+withList o l = record { numbers = l ++ drop (length l) (o .numbers); count = length l }
+
+-- the word is in the list
+unfoldable pub member : ℕ → List ℕ → Bool
+member word [] = false
+member word (x ∷ l) = eqb x word || member word l
+
+-- "the number enters the list of owed acknowledgements unless it is there already or the list has 64 entries"
+unfoldable pub enters : List ℕ → ℕ → List ℕ
+enters l word = pick (leb 64 (length l) || member word l) l (l ++ (word ∷ []))
+
+unfoldable pub entered : Owed → ℕ → Owed
+entered o word = withList o (enters (owedOf o) word)
+
+-- "every packet written carries the first three, or all if fewer"
+unfoldable pub firstThree : Owed → Three
+firstThree o = record {
+  count = min 3 (length (owedOf o));
+  one = getD (owedOf o) 0 0;
+  two = getD (owedOf o) 1 0;
+  three = getD (owedOf o) 2 0;
+}
+
+-- "and they leave the list"
+unfoldable pub withoutThree : Owed → Owed
+withoutThree o = withList o (drop 3 (owedOf o))
+
+-- an entry is of channel 1 or 2
+abbrev pub spanFits : ℕ → Bool
+spanFits word = leb 1 (channelOf word) && leb (channelOf word) 2
+
+-- no word stands in the list twice
+unfoldable pub noTwice : List ℕ → Bool
+noTwice [] = true
+noTwice (x ∷ l) = not (member x l) && noTwice l
+
+unfoldable pub allSpans : List ℕ → Bool
+allSpans [] = true
+allSpans (x ∷ l) = spanFits x && allSpans l
+
+-- What BOOK asks: "over 64 owed numbers, or one twice"; an entry that is of no channel served is outside its span.
+unfoldable pub owedFits : Owed → Bool
+owedFits o = leb (o .count) 64 && (allSpans (owedOf o) && noTwice (owedOf o))

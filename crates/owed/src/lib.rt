@@ -1,0 +1,162 @@
+// A line's owed acknowledgements (document 01, 'Packets'), by value: one list for both channels, in order of entry.
+// An entry is a word of 16 bits, channel (2) and number (14), as a packet carries it. Writing them is left to others.
+ghost use mathlib.Core.Path.{_≡_};
+ghost use Prim.Native.Nat.{_≤_, _<_};
+ghost use lib.ListN.{getD, take};
+ghost use Rattle.field.specs.Word.{wordOf};
+ghost use Rattle.owed.specs.Owed.{freshOwed, owedOf, member, entered, firstThree, withoutThree, spanFits, owedFits};
+
+pub struct Owed {
+    // The entries there are, oldest first, and behind them what is of no account.
+    pub numbers: [u16; 64],
+    // How many entries there are. At most 64.
+    pub count: u8,
+}
+
+// The entries that a packet takes along: how many, and each, 0 where there is none.
+pub struct Three {
+    pub count: u8,
+    pub one: u16,
+    pub two: u16,
+    pub three: u16,
+}
+
+impl Owed {
+    pub const MOST: u8 = 64;
+
+    // A list that owes nothing.
+    pub fn fresh() -> Owed
+        ensures { λ r. ⌜ r ≡ freshOwed ⌝ }
+    {
+        let none = [0u16; 64];
+        Owed {
+            numbers: none,
+            count: 0,
+        }
+    }
+
+    // Is the word among the first n entries?
+    fn among(self, n: usize, word: u16) -> bool
+        requires { ⌜ n ≤ 64 ⌝ }
+        ensures { λ r. ⌜ r ≡ member word (take n (self .numbers)) ⌝ }
+    {
+        let mut i = 0;
+        while i < n {
+            if self.numbers[i] == word {
+                return true;
+            }
+            i += 1;
+        }
+        false
+    }
+
+    // The word enters the list unless it is there already or 64 are there.
+    pub fn enter(self, word: u16) -> Owed
+        requires { ⌜ self .count ≤ 64 ⌝ }
+        ensures { λ r. ⌜ r ≡ entered self word ⌝ }
+    {
+        let n = self.count as usize;
+        if Owed::MOST <= self.count {
+            return self;
+        }
+        if self.among(n, word) {
+            return self;
+        }
+        let mut next = self;
+        next.numbers[n] = word;
+        next.count = self.count + 1;
+        next
+    }
+
+    // Entry i, or 0 where there is none.
+    fn entry(self, i: usize) -> u16
+        requires { ⌜ i < 64 ⌝ }
+        ensures { λ r. ⌜ r ≡ getD (owedOf self) i 0 ⌝ }
+    {
+        if i < self.count as usize {
+            return self.numbers[i];
+        }
+        0
+    }
+
+    // The first three entries, or all if fewer.
+    pub fn first_three(self) -> Three
+        ensures { λ r. ⌜ r ≡ firstThree self ⌝ }
+    {
+        let one = self.entry(0);
+        let two = self.entry(1);
+        let three = self.entry(2);
+        if self.count < 3 {
+            return Three {
+                count: self.count,
+                one,
+                two,
+                three,
+            };
+        }
+        Three {
+            count: 3,
+            one,
+            two,
+            three,
+        }
+    }
+
+    // The list without its first three entries, or all if fewer.
+    pub fn without_three(self) -> Owed
+        requires { ⌜ self .count ≤ 64 ⌝ }
+        ensures { λ r. ⌜ r ≡ withoutThree self ⌝ }
+    {
+        let mut next = self;
+        if self.count < 3 {
+            next.count = 0;
+            return next;
+        }
+        next.count = self.count - 3;
+        let n = next.count as usize;
+        let mut i = 0;
+        while i < n {
+            next.numbers[i] = self.numbers[i + 3];
+            i += 1;
+        }
+        next
+    }
+
+    // Is each entry of channel 1 or 2, and none there twice?
+    pub fn fits(self) -> bool
+        ensures { λ r. ⌜ r ≡ owedFits self ⌝ }
+    {
+        if Owed::MOST < self.count {
+            return false;
+        }
+        let n = self.count as usize;
+        let mut i = 0;
+        while i < n {
+            let word = self.numbers[i];
+            if !span_fits(word) {
+                return false;
+            }
+            if self.among(i, word) {
+                return false;
+            }
+            i += 1;
+        }
+        true
+    }
+}
+
+// The word of a channel and a number.
+pub fn word(channel: u8, number: u16) -> u16
+    requires { ⌜ (channel < 4) × (number < 16384) ⌝ }
+    ensures { λ r. ⌜ r ≡ wordOf channel number ⌝ }
+{
+    ((channel as u16) << 14) | number
+}
+
+// Is an entry of channel 1 or 2?
+fn span_fits(word: u16) -> bool
+    ensures { λ r. ⌜ r ≡ spanFits word ⌝ }
+{
+    let channel = word >> 14;
+    (1 <= channel) & (channel <= 2)
+}

@@ -1,0 +1,32 @@
+-- Acknowledgements: words of 16 bits, at most three, and which of them are served.
+-- Assumes nothing.
+use Prim.Native.Nat.{ℕ}
+use mathlib.Core.Bool.{Bool, true}
+use mathlib.Core.List.{List, [], _∷_}
+use lib.ListN.{take}
+use lib.Dec.{ltb, eqb}
+use Rattle.ground.specs.Pick.{pick, allHold}
+use Rattle.field.specs.Word.{channelOf}
+use Rattle.packet.specs.declared.Acks.{Acks}
+
+-- the acknowledgements as a list
+abbrev pub ackList : Acks → List ℕ
+ackList a = take (a .count) (a .first ∷ a .second ∷ a .third ∷ [])
+
+-- "acknowledgement .. not naming 1 or 2" is refused
+abbrev pub served : ℕ → Bool
+served w = allHold (ltb 0 (channelOf w) ∷ ltb (channelOf w) 3 ∷ [])
+
+-- of n acknowledgements the k-th, from 0, names a channel that is served, if it is there
+abbrev pub named : ℕ → ℕ → ℕ → Bool
+named n k w = pick (ltb k n) (served w) true
+
+-- and if it is not there its word is 0
+abbrev pub blank : ℕ → ℕ → ℕ → Bool
+blank n k w = pick (ltb k n) true (eqb w 0)
+
+unfoldable pub acksServed : Acks → Bool
+acksServed a = allHold (named (a .count) 0 (a .first) ∷ named (a .count) 1 (a .second) ∷ named (a .count) 2 (a .third) ∷ [])
+
+unfoldable pub acksBlank : Acks → Bool
+acksBlank a = allHold (blank (a .count) 0 (a .first) ∷ blank (a .count) 1 (a .second) ∷ blank (a .count) 2 (a .third) ∷ [])

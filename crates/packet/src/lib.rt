@@ -1,0 +1,319 @@
+// A relay packet: document 01, section 'Packets', after V.150.1 Annex B. What its octets say, and a packet written.
+// Lines, windows and modes are not known here: NOLINE, TYPE and MODE stand between reading the head and reading the list.
+ghost use mathlib.Core.Path.{_≡_};
+ghost use lib.ListN.{length};
+ghost use Prim.Native.Nat.{_+_, _*_, _<_};
+ghost use lib.Seq.{sets};
+ghost use Rattle.ground.specs.Refusal.{verdict};
+ghost use Rattle.ground.specs.Answer.{Gives, Writes};
+ghost use Rattle.field.specs.Layout.{packed, Room};
+ghost use Rattle.packet.specs.Acks.{served, named, blank, acksServed, acksBlank};
+ghost use Rattle.packet.specs.Read.{headTests, listTests, headAnswer, acksAnswer, headAt, acksAt, headerAt, channelAt, numberAt, baseAt, ackAt, sizeFits, payloadFits, formPlain};
+ghost use Rattle.packet.specs.Write.{layout, fixedFields, numbersPlaced, fieldsFit, writeTests, packetOctets};
+use ground::Refusal;
+use ground::Verdict;
+use ground::Written;
+
+// What a packet says before its list of acknowledgements. What is not looked at is 0.
+pub struct Head {
+    // 0 to 127: it finds the line.
+    pub identifier: u8,
+    // The payload type, 0 to 127.
+    pub kind: u8,
+    // 0 carries acknowledgements only; 1 and 2 carry messages; 3 is not served.
+    pub channel: u8,
+    // The payload's number, 14 bits; 0 on channel 0 and without payload.
+    pub number: u16,
+    // The writer's next message to hand out on the channel, 14 bits; 0 on channel 0.
+    pub base: u16,
+}
+
+// The acknowledgements, at most three. Each is a word as it is sent: its channel (2 bits) and its number (14).
+// A word at or past the count is 0.
+pub struct Acks {
+    pub count: u8,
+    pub first: u16,
+    pub second: u16,
+    pub third: u16,
+}
+
+// What the first six octets say, or why they say nothing.
+pub enum HeadRead {
+    Says(Head),
+    Refused(Refusal),
+}
+
+// What the list behind them says, or why it says nothing.
+pub enum AcksRead {
+    Says(Acks),
+    Refused(Refusal),
+}
+
+// Where the payload begins: behind six octets and two for each acknowledgement.
+pub fn header_at(s: &[u8]) -> usize
+    ensures { λ r. ⌜ r ≡ headerAt (now (s .entry)) ⌝ }
+{
+    6 + 2 * ((field::word_at(s, 4) >> 14) as usize)
+}
+
+fn channel_at(s: &[u8]) -> u8
+    ensures { λ r. ⌜ r ≡ channelAt (now (s .entry)) ⌝ }
+{
+    (field::word_at(s, 2) >> 14) as u8
+}
+
+fn number_at(s: &[u8]) -> u16
+    ensures { λ r. ⌜ r ≡ numberAt (now (s .entry)) ⌝ }
+{
+    if channel_at(s) == 0 {
+        return 0;
+    }
+    if s.len() <= header_at(s) {
+        return 0;
+    }
+    field::word_at(s, 2) & 0x3fff
+}
+
+fn base_at(s: &[u8]) -> u16
+    ensures { λ r. ⌜ r ≡ baseAt (now (s .entry)) ⌝ }
+{
+    if channel_at(s) == 0 {
+        return 0;
+    }
+    field::word_at(s, 4) & 0x3fff
+}
+
+fn head_at(s: &[u8]) -> Head
+    ensures { λ r. ⌜ r ≡ headAt (now (s .entry)) ⌝ }
+{
+    let w = field::word_at(s, 0);
+    let channel = channel_at(s);
+    let number = number_at(s);
+    let base = base_at(s);
+    Head {
+        identifier: (w >> 8 & 0x7f) as u8,
+        kind: (w & 0x7f) as u8,
+        channel,
+        number,
+        base,
+    }
+}
+
+// Are the extension bit and the reserved bit 0?
+fn form_plain(s: &[u8]) -> bool
+    ensures { λ r. ⌜ r ≡ formPlain (now (s .entry)) ⌝ }
+{
+    let w = field::word_at(s, 0);
+    (w >> 15 == 0) & (w >> 7 & 1 == 0)
+}
+
+fn head_verdict(s: &[u8]) -> Verdict
+    ensures { λ r. ⌜ r ≡ verdict (headTests (now (s .entry))) ⌝ }
+{
+    if s.len() < 6 {
+        return Verdict::Refuse(Refusal::SHORT);
+    }
+    if form_plain(s) {
+        Verdict::Pass
+    } else {
+        Verdict::Refuse(Refusal::FORM)
+    }
+}
+
+// The first six octets: SHORT, FORM.
+pub fn read_head(s: &[u8]) -> HeadRead
+    ensures { λ r. ⌜ Gives headAnswer (headTests (now (s .entry))) HeadRead.Refused (HeadRead.Says (headAt (now (s .entry)))) r ⌝ }
+{
+    match head_verdict(s) {
+        Verdict::Pass => HeadRead::Says(head_at(s)),
+        Verdict::Refuse(r) => HeadRead::Refused(r),
+    }
+}
+
+// Acknowledgement k of the list, from 0; 0 where there is none.
+fn ack_at(s: &[u8], k: usize) -> u16
+    requires { ⌜ k < 3 ⌝ }
+    ensures { λ r. ⌜ r ≡ ackAt (now (s .entry)) k ⌝ }
+{
+    if k < ((field::word_at(s, 4) >> 14) as usize) {
+        field::word_at(s, 6 + 2 * k)
+    } else {
+        0
+    }
+}
+
+fn acks_at(s: &[u8]) -> Acks
+    ensures { λ r. ⌜ r ≡ acksAt (now (s .entry)) ⌝ }
+{
+    let count = (field::word_at(s, 4) >> 14) as u8;
+    let first = ack_at(s, 0);
+    let second = ack_at(s, 1);
+    let third = ack_at(s, 2);
+    Acks {
+        count,
+        first,
+        second,
+        third,
+    }
+}
+
+fn ack_served(w: u16) -> bool
+    ensures { λ r. ⌜ r ≡ served w ⌝ }
+{
+    let channel = w >> 14;
+    (0 < channel) & (channel < 3)
+}
+
+fn ack_named(n: u8, k: u8, w: u16) -> bool
+    ensures { λ r. ⌜ r ≡ named n k w ⌝ }
+{
+    if k < n { ack_served(w) } else { true }
+}
+
+fn ack_blank(n: u8, k: u8, w: u16) -> bool
+    ensures { λ r. ⌜ r ≡ blank n k w ⌝ }
+{
+    if k < n { true } else { w == 0 }
+}
+
+// Does each acknowledgement that is there name a channel that is served?
+fn acks_served(a: Acks) -> bool
+    ensures { λ r. ⌜ r ≡ acksServed a ⌝ }
+{
+    let n = a.count;
+    ack_named(n, 0, a.first) & ack_named(n, 1, a.second) & ack_named(n, 2, a.third)
+}
+
+// Is each that is not there 0?
+fn acks_blank(a: Acks) -> bool
+    ensures { λ r. ⌜ r ≡ acksBlank a ⌝ }
+{
+    let n = a.count;
+    ack_blank(n, 0, a.first) & ack_blank(n, 1, a.second) & ack_blank(n, 2, a.third)
+}
+
+fn list_verdict(s: &[u8]) -> Verdict
+    ensures { λ r. ⌜ r ≡ verdict (listTests (now (s .entry))) ⌝ }
+{
+    if s.len() < header_at(s) {
+        return Verdict::Refuse(Refusal::SHORT);
+    }
+    let served = acks_served(acks_at(s));
+    if (channel_at(s) < 3) & served {
+        Verdict::Pass
+    } else {
+        Verdict::Refuse(Refusal::CHANNEL)
+    }
+}
+
+// The acknowledgements behind the six octets: SHORT, CHANNEL.
+pub fn read_acks(s: &[u8]) -> AcksRead
+    ensures { λ r. ⌜ Gives acksAnswer (listTests (now (s .entry))) AcksRead.Refused (AcksRead.Says (acksAt (now (s .entry)))) r ⌝ }
+{
+    match list_verdict(s) {
+        Verdict::Pass => AcksRead::Says(acks_at(s)),
+        Verdict::Refuse(r) => AcksRead::Refused(r),
+    }
+}
+
+// Are n octets of payload no more than that, and none on channel 0?
+fn size_fits(channel: u8, n: usize, largest: usize) -> bool
+    ensures { λ r. ⌜ r ≡ sizeFits channel n largest ⌝ }
+{
+    if channel == 0 {
+        return n == 0;
+    }
+    n <= largest
+}
+
+// Is the packet's payload no larger than that, and none on channel 0? (SIZE where it is not.)
+pub fn payload_fits(s: &[u8], largest: usize) -> bool
+    ensures { λ r. ⌜ r ≡ payloadFits (now (s .entry)) largest ⌝ }
+{
+    let at = header_at(s);
+    let channel = channel_at(s);
+    if s.len() <= at {
+        return size_fits(channel, 0, largest);
+    }
+    size_fits(channel, s.len() - at, largest)
+}
+
+// Are numbers that have no place 0? n is the payload's length.
+fn numbers_placed(h: Head, n: usize) -> bool
+    ensures { λ r. ⌜ r ≡ numbersPlaced h n ⌝ }
+{
+    if h.channel == 0 {
+        return (h.number == 0) & (h.base == 0);
+    }
+    if n == 0 {
+        return h.number == 0;
+    }
+    true
+}
+
+fn fields_fit(h: Head, a: Acks, n: usize) -> bool
+    ensures { λ r. ⌜ r ≡ fieldsFit h a n ⌝ }
+{
+    let blank = acks_blank(a);
+    let placed = numbers_placed(h, n);
+    (h.identifier < 128)
+        & (h.kind < 128)
+        & (h.number < 16384)
+        & (h.base < 16384)
+        & (a.count <= 3)
+        & blank
+        & placed
+}
+
+fn write_verdict(h: Head, a: Acks, payload: &[u8], largest: usize, room: usize) -> Verdict
+    ensures { λ r. ⌜ r ≡ verdict (writeTests h a (now (payload .entry)) largest room) ⌝ }
+{
+    let n = payload.len();
+    if fields_fit(h, a, n) {} else {
+        return Verdict::Refuse(Refusal::RANGE);
+    }
+    let served = acks_served(a);
+    if (h.channel < 3) & served {} else {
+        return Verdict::Refuse(Refusal::CHANNEL);
+    }
+    if size_fits(h.channel, n, largest) {} else {
+        return Verdict::Refuse(Refusal::SIZE);
+    }
+    if 6 + 2 * (a.count as usize) + n <= room {
+        Verdict::Pass
+    } else {
+        Verdict::Refuse(Refusal::ROOM)
+    }
+}
+
+// Stores the header and answers how many octets that is.
+fn put_header(out: &mut [u8], h: Head, a: Acks) -> usize
+    requires { ⌜ Room (fixedFields h (a .count)) ⌝ }
+    ensures { λ r. ⌜ (r ≡ 6 + 2 * a .count) × (now (out .exit) ≡ sets (now (out .entry)) 0 (packed (layout h a))) ⌝ }
+{
+    let words = [
+        (h.identifier as u16) << 8 | h.kind as u16,
+        (h.channel as u16) << 14 | h.number,
+        (a.count as u16) << 14 | h.base,
+        a.first,
+        a.second,
+        a.third,
+    ];
+    let n = 3 + a.count as usize;
+    field::put_words(out, &words[..n]);
+    2 * n
+}
+
+// Writes a packet: RANGE, CHANNEL, SIZE, ROOM. `largest` is the line's largest message.
+pub fn write_packet(out: &mut [u8], h: Head, a: Acks, payload: &[u8], largest: usize) -> Written
+    ensures { λ r. ⌜ Writes (writeTests h a (now (payload .entry)) largest (length (now (out .entry)))) (packetOctets h a (now (payload .entry))) (now (out .entry)) (now (out .exit)) r ⌝ }
+{
+    match write_verdict(h, a, payload, largest, out.len()) {
+        Verdict::Refuse(r) => Written::Refused(r),
+        Verdict::Pass => {
+            let n = put_header(out, h, a);
+            field::put_octets(out, n, payload);
+            Written::Wrote(n + payload.len())
+        }
+    }
+}

@@ -1,0 +1,113 @@
+// A set of places as a mask: place i is in it where bit i is set. It counts from the oldest message, so that moving on is a shift.
+// A window over 32 needs a wider mask, and that changes this file alone: contracts speak of the mask as a number.
+ghost use mathlib.Core.Path.{_≡_};
+ghost use Prim.Native.Nat.{_/_, _^_, _<_};
+ghost use lib.Dec.{eqb};
+ghost use Rattle.places.specs.Places.{maskOf, setOf, widest, bitOf, withBit, withoutBit, within, countOf, rankOf};
+
+pub struct Places {
+    // Bit i stands for place i.
+    pub bits: u32,
+}
+
+// What a search for a place finds: the place, or that there is none.
+pub enum Place {
+    At(u32),
+    Missing,
+}
+
+impl Places {
+    // The set of no places.
+    pub fn none() -> Places
+        ensures { λ r. ⌜ r ≡ setOf 0 ⌝ }
+    {
+        Places { bits: 0 }
+    }
+
+    // Is place i in the set?
+    pub fn has(self, i: u32) -> bool
+        requires { ⌜ i < widest ⌝ }
+        ensures { λ r. ⌜ r ≡ bitOf (maskOf self) i ⌝ }
+    {
+        (self.bits >> i) & 1 == 1
+    }
+
+    // The set with place i in it.
+    pub fn with(self, i: u32) -> Places
+        requires { ⌜ i < widest ⌝ }
+        ensures { λ r. ⌜ r ≡ setOf (withBit (maskOf self) i) ⌝ }
+    {
+        if self.has(i) {
+            return self;
+        }
+        Places {
+            bits: self.bits | (1 << i),
+        }
+    }
+
+    // The set without place i.
+    pub fn without(self, i: u32) -> Places
+        requires { ⌜ i < widest ⌝ }
+        ensures { λ r. ⌜ r ≡ setOf (withoutBit (maskOf self) i) ⌝ }
+    {
+        if self.has(i) {
+            return Places {
+                bits: self.bits - (1 << i),
+            };
+        }
+        self
+    }
+
+    // The lowest d places leave, and the others move down by d.
+    pub fn dropped(self, d: u32) -> Places
+        ensures { λ r. ⌜ r ≡ setOf (maskOf self / 2 ^ d) ⌝ }
+    {
+        if d < 32 {
+            return Places {
+                bits: self.bits >> d,
+            };
+        }
+        Places::none()
+    }
+
+    // Is no place in the set?
+    pub fn empty(self) -> bool
+        ensures { λ r. ⌜ r ≡ eqb (maskOf self) 0 ⌝ }
+    {
+        self.bits == 0
+    }
+
+    // Is every place of the set below n?
+    pub fn within(self, n: u32) -> bool
+        ensures { λ r. ⌜ r ≡ within n (maskOf self) ⌝ }
+    {
+        self.dropped(n).empty()
+    }
+
+    // How many places are in the set.
+    pub fn count(self) -> u32
+        ensures { λ r. ⌜ r ≡ countOf (maskOf self) ⌝ }
+    {
+        u32::count_ones(self.bits)
+    }
+
+    // The place of the set that has exactly `rank` places of the set below it.
+    pub fn rank(self, rank: u32) -> Place
+        ensures { λ r. ⌜ r ≡ rankOf (maskOf self) rank ⌝ }
+    {
+        let mut rest = self;
+        let mut left = rank;
+        let mut i = 0;
+        while !rest.empty() {
+            if rest.has(0) {
+                if left == 0 {
+                    return Place::At(i);
+                }
+                left -= 1;
+            }
+            rest = rest.dropped(1);
+            i += 1;
+        }
+        Place::Missing
+    }
+}

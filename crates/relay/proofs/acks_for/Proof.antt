@@ -1,0 +1,16 @@
+use Rattle.relay.specs.Write.{acksFor}
+use borrow.Author.Needs.{needs}
+use Rattle.relay.proofs.acks_for.Statement.{statement}
+use Rattle.relay.proofs.acks_for.Tie as tie
+
+first-three-requires : tie.Need-first-three-requires
+first-three-requires c κs = search needs
+
+returns : tie.Need-returns
+unfolding acksFor
+returns c =
+    let e = c .first-three .ensures in
+    λ i. record { count = e i .count; first = e i .one; second = e i .two; third = e i .three }
+
+pub acks-for-spec : {M : Type 1} → statement M
+acks-for-spec = tie.close (tie.spec first-three-requires returns)

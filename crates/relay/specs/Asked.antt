@@ -1,0 +1,21 @@
+-- What every relay call asks of its line first: "NOLINE, MODE, CHANNEL".
+-- Assumes nothing.
+use Prim.Native.Nat.{ℕ}
+use mathlib.Core.Bool.{Bool, _||_}
+use mathlib.Core.List.{List, [], _∷_}
+use lib.Dec.{eqb}
+use Rattle.ground.specs.Refusal.{Test, must}
+use Rattle.ground.specs.declared.Refusal.the-variants.{NOLINE, MODE, CHANNEL}
+use Rattle.mode.specs.Given.{modem}
+use Rattle.line.specs.declared.Line.{Line}
+
+-- "relay call .. outside m"
+abbrev pub inRelay : Line → Bool
+inRelay l = eqb (l .modes .local) modem
+
+-- "message call not naming 1 or 2"
+abbrev pub reliable : ℕ → Bool
+reliable channel = eqb channel 1 || eqb channel 2
+
+unfoldable pub relayTests : Line → ℕ → List Test
+relayTests l channel = must (l .opened) NOLINE ∷ must (inRelay l) MODE ∷ must (reliable channel) CHANNEL ∷ []

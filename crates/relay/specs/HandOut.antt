@@ -1,0 +1,26 @@
+-- A message is handed out: what refuses it, its octets, and what it leaves in the line.
+-- Assumes nothing.
+use Prim.Native.Nat.{ℕ}
+use mathlib.Core.List.{List, [], _∷_, _++_}
+use lib.Dec.{leb}
+use Rattle.ground.specs.Refusal.{Test, must}
+use Rattle.ground.specs.declared.Refusal.the-variants.{ROOM}
+use Rattle.channel.specs.Channel.{windowOf}
+use Rattle.channel.specs.Receiving.{handTests, nextSize, handedOut}
+use Rattle.line.specs.Line.{receivingOf, withReceiving}
+use Rattle.line.specs.declared.Line.{Line}
+use Rattle.store.specs.Store.{regionOf, octetsIn}
+use Rattle.store.specs.declared.Way.the-variants.{Receiving}
+use Rattle.relay.specs.Asked.{relayTests}
+
+-- "hand-out: NOLINE, MODE, CHANNEL, SPENT .., NOTHING, ROOM"; room is the output's length
+unfoldable pub handCallTests : Line → ℕ → ℕ → List Test
+handCallTests l channel room = relayTests l channel ++ (handTests (receivingOf l channel) ++ (must (leb (nextSize (receivingOf l channel)) room) ROOM ∷ []))
+
+-- "Handing out gives message R": its octets
+abbrev pub handedOctets : Line → ℕ → ℕ → List ℕ → List ℕ
+handedOctets l i channel store = octetsIn store (regionOf i Receiving channel) (receivingOf l channel .first) (nextSize (receivingOf l channel))
+
+-- "and moves R on"
+abbrev pub handedLine : Line → ℕ → Line
+handedLine l channel = withReceiving l channel (handedOut (windowOf channel) (receivingOf l channel))

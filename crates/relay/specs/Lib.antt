@@ -1,0 +1,4 @@
+pub mod Asked
+pub mod Take
+pub mod HandOut
+pub mod Write

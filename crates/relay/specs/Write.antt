@@ -1,0 +1,55 @@
+-- What a line writes: the head and the acknowledgements of its packets, and what is left of its owed list.
+-- Assumes nothing.
+use Prim.Native.Nat.{ℕ, _%_}
+use mathlib.Core.List.{List, [], _∷_}
+use lib.Dec.{leb, eqb}
+use lib.ListN.{length}
+use Rattle.ground.specs.Pick.{pick}
+use Rattle.ground.specs.Refusal.{Test, must}
+use Rattle.ground.specs.declared.Refusal.the-variants.{NOLINE, MODE, CHANNEL, ROOM}
+use Rattle.channel.specs.Channel.{modulus}
+use Rattle.packet.specs.Write.{packetOctets}
+use Rattle.packet.specs.declared.Head.{Head}
+use Rattle.packet.specs.declared.Acks.{Acks}
+use Rattle.owed.specs.Owed.{firstThree, withoutThree}
+use Rattle.line.specs.Line.{receivingOf}
+use Rattle.line.specs.declared.Line.{Line}
+use Rattle.relay.specs.Asked.{inRelay}
+
+-- "every packet written carries the first three, or all if fewer"
+unfoldable pub acksFor : Line → Acks
+acksFor l = let t = firstThree (l .owed) in record { count = t .count; first = t .one; second = t .two; third = t .three }
+
+-- "and they leave the list"
+unfoldable pub wroteLine : Line → Line
+wroteLine l = record {
+  opened = l .opened;
+  identifier = l .identifier;
+  kind = l .kind;
+  modes = l .modes;
+  sending1 = l .sending1;
+  sending2 = l .sending2;
+  receiving1 = l .receiving1;
+  receiving2 = l .receiving2;
+  owed = withoutThree (l .owed);
+}
+
+-- "The base number in a packet on channel 1 or 2 is the writer's own next message to hand out on that channel"; on channel 0 it is 0
+unfoldable pub baseFor : Line → ℕ → ℕ
+baseFor l channel = pick (eqb channel 0) 0 (receivingOf l channel .next % modulus)
+
+abbrev pub headFor : Line → ℕ → ℕ → Head
+headFor l channel number = record { identifier = l .identifier; kind = l .kind; channel = channel; number = number; base = baseFor l channel }
+
+-- a packet without payload: its number is 0
+unfoldable pub emptyPacket : Line → ℕ → List ℕ
+emptyPacket l channel = packetOctets (headFor l channel 0) (acksFor l) []
+
+-- "Empty packet: NOLINE, MODE, CHANNEL, ROOM"; "empty-packet call not naming 0 to 2"
+unfoldable pub emptyTests : Line → ℕ → ℕ → List Test
+emptyTests l channel room =
+    must (l .opened) NOLINE
+    ∷ must (inRelay l) MODE
+    ∷ must (leb channel 2) CHANNEL
+    ∷ must (leb (length (emptyPacket l channel)) room) ROOM
+    ∷ []

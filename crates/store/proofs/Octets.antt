@@ -1,0 +1,98 @@
+-- A message put into its room is read back from there; every other room, and every octet past the store, stays as it was.
+-- Assumes nothing.
+use Prim.Native.Nat.{ℕ, _+_, _-_, _≤_, _<_}
+use mathlib.Core.Path.{_≡_, sym, ap, _∙_}
+use mathlib.Core.List.{List, _++_, append-assoc}
+use mathlib.Core.Logic.{_≢_, _⊎_, ⊎-elim}
+use native.Mathlib.Nat.{le-refl}
+use native.Mathlib.Omega.{arith}
+use lib.ListN.{length, take, drop, length-drop, take-append-drop}
+use lib.Seq.{sets, sets-eq, length-sets, take-append-le, drop-append-le, drop-at, drop-drop, drop-append-add, length-take-le, take-append-seam, take-take}
+use Rattle.store.specs.Store.{roomAt, regionEnd, RoomIn, octetsIn, roomOf}
+use Rattle.store.specs.declared.Region.{Region}
+use Rattle.store.proofs.Rooms.{Apart, Before, places-apart, regions-rooms, Whose, Served, region, region-end, room-end}
+
+-- Octets x written into a list s from octet b on.
+module _ (s : List ℕ) (b : ℕ) (x : List ℕ) (fits : b + length x ≤ length s) where
+  written : sets s b x ≡ take b s ++ (x ++ drop (b + length x) s)
+  written = sets-eq x s b fits ∙ append-assoc (take b s) x (drop (b + length x) s)
+
+  front : length (take b s) ≡ b
+  front = length-take-le b s (omega arith)
+
+  -- what is read where they were written
+  pub read-same : take (length x) (drop b (sets s b x)) ≡ x
+  read-same = rw (written, drop-at (take b s) (x ++ drop (b + length x) s) b front) (take-append-seam x (drop (b + length x) s))
+
+  -- what is read in front of them
+  pub read-before : (a n : ℕ) → a + n ≤ b → take n (drop a (sets s b x)) ≡ take n (drop a s)
+  read-before a n q = rw written (cut (x ++ drop (b + length x) s) ∙ sym (cut (drop b s)) ∙ ap (λ (l : List ℕ). take n (drop a l))
+      (take-append-drop b s))
+    where
+      cut : (y : List ℕ) → take n (drop a (take b s ++ y)) ≡ take n (drop a (take b s))
+      cut y = rw (drop-append-le a (take b s) y (omega (arith, front)))
+          (take-append-le n (drop a (take b s)) y (omega (arith, front, length-drop a (take b s))))
+
+  -- all that is behind them
+  pub behind : (a : ℕ) → b + length x ≤ a → drop a (sets s b x) ≡ drop a s
+  behind a q =
+      let k : ℕ = a - (b + length x) in
+      let e : a ≡ length (take b s) + (length x + k) = omega (arith, front) in
+      let f : b + length x + k ≡ a = omega arith in
+      rw written (ap (λ (j : ℕ). drop j (take b s ++ (x ++ drop (b + length x) s))) e ∙ drop-append-add (take b s)
+      (x ++ drop (b + length x) s) (length x + k)
+      ∙ drop-append-add x (drop (b + length x) s) k ∙ drop-drop k (b + length x) s ∙ ap (λ (j : ℕ). drop j s) f)
+
+-- A message put into the room of place p.
+module _ (s : List ℕ) (g : Region) (p : ℕ) (x : List ℕ) (r : RoomIn g p (length s)) (small : length x ≤ g .size) where
+  in-store : roomAt g p + length x ≤ length s
+  in-store = omega (arith, room-end g p (r .placed), r .inside)
+
+  -- it is what the room holds
+  pub put-same : octetsIn (sets s (roomAt g p) x) g p (length x) ≡ x
+  put-same = read-same s (roomAt g p) x in-store
+
+  -- a room that has none of its octets holds what it held
+  pub put-other : (k : Region) (q n : ℕ) → n ≤ k .size → Apart (roomAt g p) (g .size) (roomAt k q) (k .size)
+      → octetsIn (sets s (roomAt g p) x) k q n ≡ octetsIn s k q n
+  put-other k q n l =
+      ⊎-elim (λ a. ap (take n) (behind s (roomAt g p) x in-store (roomAt k q) (omega arith)))
+      (λ a. read-before s (roomAt g p) x in-store (roomAt k q) n (omega arith))
+
+  -- the octets behind its region, those past the store among them, stay
+  pub put-past : (n : ℕ) → regionEnd g ≤ n → drop n (sets s (roomAt g p) x) ≡ drop n s
+  put-past n l = behind s (roomAt g p) x in-store n (omega (arith, room-end g p (r .placed)))
+
+  pub put-length : length (sets s (roomAt g p) x) ≡ length s
+  put-length = length-sets s (roomAt g p) x
+
+-- The rooms of a region as a function of the place: what the two sides of a channel are read with.
+module _ (s : List ℕ) (g : Region) (inside : regionEnd g ≤ length s) where
+  -- a room has as many octets as the largest message
+  pub room-length : (q : ℕ) → q < g .places → length (roomOf s g q) ≡ g .size
+  room-length q l = length-take-le (g .size) (drop (roomAt g q) s) (omega (arith, room-end g q l, length-drop (roomAt g q) s))
+
+  -- the first n of them
+  pub room-front : (q n : ℕ) → n ≤ g .size → take n (roomOf s g q) ≡ octetsIn s g q n
+  room-front q n l = take-take n (g .size) (drop (roomAt g q) s) l
+
+  module _ (p : ℕ) (x : List ℕ) (placed : p < g .places) (small : length x ≤ g .size) where
+    in-room : RoomIn g p (length s)
+    in-room = record { placed = placed; inside = inside }
+
+    -- a message put into one of them lies at its front
+    pub room-put : take (length x) (roomOf (sets s (roomAt g p) x) g p) ≡ x
+    room-put = take-take (length x) (g .size) (drop (roomAt g p) (sets s (roomAt g p) x)) small ∙ put-same s g p x in-room small
+
+    -- and each other is as it was, in this region and in any other
+    pub room-kept : (q : ℕ) → q ≢ p → roomOf (sets s (roomAt g p) x) g q ≡ roomOf s g q
+    room-kept q d = put-other s g p x in-room small g q (g .size) (le-refl (g .size)) (places-apart g p q (λ e. d (sym e)))
+
+    pub region-kept : (k : Region) → Before g k ⊎ Before k g → (q : ℕ) → q < k .places → roomOf (sets s (roomAt g p) x) k q ≡ roomOf s k q
+    region-kept k a q l = put-other s g p x in-room small k q (k .size) (le-refl (k .size)) (regions-rooms g k p q placed l a)
+
+-- "Octets past it are never touched": whichever line, way and channel the message is of
+pub past-stays : (s : List ℕ) (y : Whose) (p : ℕ) (x : List ℕ) → Served y → p < region y .places → length x ≤ region y .size → 42240 ≤ length s
+    → drop 42240 (sets s (roomAt (region y) p) x) ≡ drop 42240 s
+past-stays s y p x v l small long =
+    put-past s (region y) p x (record { placed = l; inside = omega (arith, region-end y v) }) small 42240 (region-end y v)

@@ -1,0 +1,46 @@
+-- Where message octets lie: "one lent store of at least 42,240 octets (4 lines, 2 ways, 40 messages of 132)".
+-- Assumes nothing.
+use Prim.Native.Nat.{ℕ, _+_, _*_, _≤_, _<_}
+use mathlib.Core.List.{List}
+use lib.Dec.{eqb}
+use lib.ListN.{take, drop}
+use Rattle.ground.specs.Pick.{pick}
+use Rattle.store.specs.declared.Region.{Region}
+use Rattle.store.specs.declared.Way.{Way}
+use Rattle.store.specs.declared.Way.the-variants.{Sending, Receiving}
+
+-- what a line and a way have lies together, the sending way's first
+abbrev pub wayNumber : Way → ℕ
+wayNumber Sending = 0
+wayNumber Receiving = 1
+
+abbrev pub startOf : ℕ → Way → ℕ
+startOf line way = (line * 2 + wayNumber way) * (40 * 132)
+
+-- the one definition of where the rooms of a line, a way and a channel lie: 32 places of channel 1, then 8 of channel 2
+unfoldable pub regionOf : ℕ → Way → ℕ → Region
+regionOf line way channel =
+    pick (eqb channel 1)
+    (record { start = startOf line way; places = 32; size = 132 })
+    (record { start = startOf line way + 32 * 132; places = 8; size = 132 })
+
+-- the octet that the room of a place begins at
+abbrev pub roomAt : Region → ℕ → ℕ
+roomAt g place = g .start + place * g .size
+
+-- the octet behind a region's last
+abbrev pub regionEnd : Region → ℕ
+regionEnd g = g .start + g .places * g .size
+
+-- a place has a room in the region, and the region lies in the first n octets
+pub record RoomIn (g : Region) (place n : ℕ) : Type 0 where
+  pub placed : place < g .places
+  pub inside : regionEnd g ≤ n
+
+-- the first `size` octets in the room of a place
+abbrev pub octetsIn : List ℕ → Region → ℕ → ℕ → List ℕ
+octetsIn store g place size = take size (drop (roomAt g place) store)
+
+-- all the octets in the room of a place
+abbrev pub roomOf : List ℕ → Region → ℕ → List ℕ
+roomOf store g place = octetsIn store g place (g .size)

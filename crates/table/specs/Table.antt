@@ -1,0 +1,180 @@
+-- Document 01's 'Table to prove', row by row, as theorems about the definitions that the code is proved to meet.
+-- Each holds by computation: the definition, run on the row's numbers, gives the row's answer. Row 9 waits for opening and closing.
+-- Assumes nothing.
+use mathlib.Core.Path.{_≡_, refl, ap}
+use mathlib.Core.Bool.{true, false}
+use mathlib.Core.List.{List, [], _∷_}
+use Prim.Native.Nat.{ℕ, _+_, _-_, _*_, _≤_}
+use native.Mathlib.Omega.{arith}
+use Rattle.ground.specs.Answer.{accepted, refused}
+use Rattle.ground.specs.declared.Refusal.the-variants.{RANGE, FULL}
+use Rattle.ground.specs.Refusal.{verdict}
+use Rattle.ground.specs.declared.Verdict.the-variants.{Pass, Refuse}
+use Rattle.field.specs.Bits.{bitsAt}
+use Rattle.packet.specs.Acks.{acksServed}
+use Rattle.packet.specs.Read.{headRead, acksRead, headAt, numberAt, baseAt, acksAt, ackAt, headAnswer, acksAnswer, payloadOf}
+use Rattle.packet.specs.Write.{packetOctets}
+use Rattle.connect.specs.Spans.{sizeOf, sizesFit}
+use Rattle.connect.specs.Read.{connectRead, connectAt, wayAt}
+use Rattle.connect.specs.Read as connect
+use Rattle.connect.specs.Write.{connectOctets, sizeFields}
+use Rattle.connect.specs.declared.Connect.{Connect}
+use Rattle.slip.specs.Slip.{slipRead, slipAt, slipFits, formFits, slipOctets}
+use Rattle.slip.specs.Slip as slip
+use Rattle.channel.specs.Channel.{windowOf}
+use Rattle.channel.specs.Receiving.{arrivalOf}
+use Rattle.channel.specs.Sending.{takeTests, heardBase}
+use Rattle.channel.specs.declared.receiving.Receiving.{Receiving}
+use Rattle.channel.specs.declared.receiving.Arrival.the-variants.{Stored, Old}
+use Rattle.channel.specs.declared.sending.Sending.{Sending}
+use Rattle.mode.specs.declared.Modes.{Modes}
+use Rattle.mode.specs.Given.{unknown, audio, voiceband}
+use Rattle.mode.specs.Moved.{openedModes, timed, moved, trying}
+use Rattle.mode.specs.Request.{asking}
+use Rattle.mode.specs.Recovery.{due, tickedModes, tickedAnswer, ticking}
+use Rattle.mode.specs.Acts.{ask, tick, Outcome, outcome, after}
+use Rattle.mode.proofs.Recovering.{recovery-begins, not-yet}
+use Rattle.places.specs.Places.{setOf}
+
+-- 1. Identifier 5, type 98, channel 1, number 0, base 0, payload 41
+abbrev packet-one : List ℕ
+packet-one = 0x05 ∷ 0x62 ∷ 0x40 ∷ 0x00 ∷ 0x00 ∷ 0x00 ∷ 0x41 ∷ []
+
+pub row-1-written : packetOctets (record { identifier = 5; kind = 98; channel = 1; number = 0; base = 0 }) (record { count = 0; first = 0; second = 0; third = 0 }) (0x41 ∷ []) ≡ packet-one
+unfolding packetOctets
+row-1-written = refl
+
+pub row-1-head : headAnswer (headRead packet-one) ≡ accepted (5 ∷ 98 ∷ 1 ∷ 0 ∷ 0 ∷ [])
+unfolding headAt numberAt baseAt bitsAt
+row-1-head = refl
+
+pub row-1-acks : acksAnswer (acksRead packet-one) ≡ accepted (0 ∷ 0 ∷ 0 ∷ 0 ∷ [])
+unfolding acksAt ackAt acksServed bitsAt
+row-1-acks = refl
+
+pub row-1-payload : payloadOf packet-one ≡ 0x41 ∷ []
+unfolding payloadOf bitsAt
+row-1-payload = refl
+
+-- 2. Channel 2, number 3, base 7, acknowledging 16,383 on 1 and 0 on 2, payload 01 02
+abbrev packet-two : List ℕ
+packet-two = 0x05 ∷ 0x62 ∷ 0x80 ∷ 0x03 ∷ 0x80 ∷ 0x07 ∷ 0x7f ∷ 0xff ∷ 0x80 ∷ 0x00 ∷ 0x01 ∷ 0x02 ∷ []
+
+pub row-2-written : packetOctets (record { identifier = 5; kind = 98; channel = 2; number = 3; base = 7 }) (record { count = 2; first = 1 * 16384 + 16383; second = 2 * 16384 + 0; third = 0 }) (0x01 ∷ 0x02 ∷ []) ≡ packet-two
+unfolding packetOctets
+row-2-written = refl
+
+pub row-2-head : headAnswer (headRead packet-two) ≡ accepted (5 ∷ 98 ∷ 2 ∷ 3 ∷ 7 ∷ [])
+unfolding headAt numberAt baseAt bitsAt
+row-2-head = refl
+
+pub row-2-acks : acksAnswer (acksRead packet-two) ≡ accepted (2 ∷ (1 * 16384 + 16383) ∷ (2 * 16384 + 0) ∷ 0 ∷ [])
+unfolding acksAt ackAt acksServed bitsAt
+row-2-acks = refl
+
+pub row-2-payload : payloadOf packet-two ≡ 0x01 ∷ 0x02 ∷ []
+unfolding payloadOf bitsAt
+row-2-payload = refl
+
+-- 3. CONNECT V.34, both directions, V.42 bis, LAPM, 33,600 and 31,200 bit/s, no DLCI, I_FRAME only, 1,024, string 32
+abbrev v34 : ℕ → Connect
+v34 string = record {
+  modulation = 4;
+  direction = 3;
+  compression = 1;
+  correction = 1;
+  transmit = record { rate = 33600; dictionary = 1024; string = string; history = 0 };
+  receive = record { rate = 31200; dictionary = 0; string = 0; history = 0 };
+  dlci = false;
+  octet = false;
+  rawbit = false;
+  frame = true;
+  charstat = false;
+  chardyn = false;
+}
+
+abbrev v34-octets : ℕ → List ℕ
+v34-octets string = 0x13 ∷ 0x11 ∷ 0x83 ∷ 0x40 ∷ 0x79 ∷ 0xe0 ∷ 0x10 ∷ 0x00 ∷ 0x04 ∷ 0x00 ∷ 0x00 ∷ 0x00 ∷ string ∷ 0x00 ∷ []
+
+-- its values in the order of Table 25
+abbrev v34-values : ℕ → List ℕ
+v34-values string = 4 ∷ 3 ∷ 1 ∷ 1 ∷ 33600 ∷ 31200 ∷ 0 ∷ 0 ∷ 0 ∷ 1 ∷ 0 ∷ 0 ∷ 1024 ∷ 0 ∷ string ∷ 0 ∷ 0 ∷ 0 ∷ []
+
+pub row-3-written : connectOctets (v34 32) ≡ v34-octets 32
+unfolding connectOctets sizeFields
+row-3-written = refl
+
+pub row-3-read : connect.answerOf (connectRead (v34-octets 32)) ≡ accepted (v34-values 32)
+unfolding connectAt wayAt sizesFit sizeOf bitsAt
+row-3-read = refl
+
+-- 4. The same with string 5: RANGE; 6 is read
+pub row-4-refused : connect.answerOf (connectRead (v34-octets 5)) ≡ refused RANGE
+unfolding connectAt wayAt sizesFit sizeOf bitsAt
+row-4-refused = refl
+
+pub row-4-read : connect.answerOf (connectRead (v34-octets 6)) ≡ accepted (v34-values 6)
+unfolding connectAt wayAt sizesFit sizeOf bitsAt
+row-4-read = refl
+
+-- 5. Slip for identifier 5, type 98, counts 300 and 2, asked
+abbrev slip-five : List ℕ
+slip-five = 0x10 ∷ 0xb8 ∷ 0x80 ∷ 0x00 ∷ 0x4b ∷ 0x00 ∷ 0x00 ∷ 0x00 ∷ 0x80 ∷ 0x00 ∷ 0x00 ∷ 0x00 ∷ []
+
+pub row-5-written : slipOctets (record { identifier = 5; kind = 98; first = 300; second = 2; reason = 0 }) ≡ slip-five
+unfolding slipOctets
+row-5-written = refl
+
+pub row-5-read : slip.answerOf (slipRead slip-five) ≡ accepted (5 ∷ 98 ∷ 300 ∷ 2 ∷ 0 ∷ [])
+unfolding slipAt slipFits formFits bitsAt
+row-5-read = refl
+
+-- 6. Channel 1, R = 16,380: number 27 is stored (d = 31); 28 is old. Whatever else the side holds
+module _ (first : ℕ) (sizes : List ℕ) where
+  abbrev at16380 : Receiving
+  at16380 = record { next = 16380; stored = setOf 0; first = first; sizes = sizes }
+
+  pub row-6-stored : arrivalOf (windowOf 1) at16380 27 ≡ Stored 31
+  unfolding arrivalOf
+  row-6-stored = refl
+
+  pub row-6-old : arrivalOf (windowOf 1) at16380 28 ≡ Old
+  unfolding arrivalOf
+  row-6-old = refl
+
+-- 7. h = 0, S = 32: FULL; after base 1 is heard one is taken. Whatever else the side holds
+module _ (first mask : ℕ) (sizes : List ℕ) where
+  abbrev taken32 : Sending
+  taken32 = record { taken = 32; base = 0; unacked = setOf mask; first = first; sizes = sizes }
+
+  pub row-7-full : verdict (takeTests (windowOf 1) taken32) ≡ Refuse FULL
+  row-7-full = refl
+
+  pub row-7-taken : verdict (takeTests (windowOf 1) (heardBase (windowOf 1) taken32 1)) ≡ Pass
+  unfolding heardBase
+  row-7-taken = refl
+
+-- 8. Difference of 1,000 ms: no recovery; 1,001: try 1. Here of a line opened at 0 that asked for v at 5
+abbrev differs : Modes
+differs = after (openedModes true true 0) (ask voiceband 5)
+
+pub row-8-no-recovery : outcome differs (tick 1005) .said ≡ accepted (0 ∷ [])
+unfolding asking moved timed ticking tickedAnswer due
+row-8-no-recovery = refl
+
+pub row-8-try-one : outcome differs (tick 1006) .said ≡ accepted (1 ∷ [])
+unfolding asking moved timed ticking tickedAnswer due
+row-8-try-one = refl
+
+-- then S is a and the remote mode i
+pub row-8-recovers : (after differs (tick 1006) .local ≡ audio) × (after differs (tick 1006) .remote ≡ unknown)
+unfolding asking moved timed trying ticking tickedModes due
+row-8-recovers = (refl, refl)
+
+-- and of every line outside recovery whose modes differ, at every time
+module _ (l : Modes) (time : ℕ) (t : l .last ≤ time) (none : l .tries ≡ 0) (d : l .local ≡ l .remote → ⊥) where
+  pub row-8-never-at-1000 : time - l .since ≡ 1000 → outcome l (tick time) .said ≡ accepted (0 ∷ [])
+  row-8-never-at-1000 w = ap (λ (o : Outcome). o .said) (not-yet l time t none (omega arith))
+
+  pub row-8-always-at-1001 : time - l .since ≡ 1001 → outcome l (tick time) .said ≡ accepted (1 ∷ [])
+  row-8-always-at-1001 w = ap (λ (o : Outcome). o .said) (recovery-begins l time t none d (omega arith))

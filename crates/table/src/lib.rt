@@ -1,0 +1,1 @@
+// Document 01's 'Table to prove': see specs/Table.antt. There is no code here.
