@@ -1,8 +1,8 @@
--- What every relay call asks of its line first: "NOLINE, MODE, CHANNEL".
+-- What the relay calls ask of their line first: "NOLINE, MODE, CHANNEL".
 -- Assumes nothing.
 use Prim.Native.Nat.{ℕ}
 use mathlib.Core.Bool.{Bool, _||_}
-use mathlib.Core.List.{List, [], _∷_}
+use mathlib.Core.List.{List, [], _∷_, _++_}
 use lib.Dec.{eqb}
 use Rattle.ground.specs.Refusal.{Test, must}
 use Rattle.ground.specs.declared.Refusal.the-variants.{NOLINE, MODE, CHANNEL}
@@ -13,9 +13,14 @@ use Rattle.line.specs.declared.Line.{Line}
 abbrev pub inRelay : Line → Bool
 inRelay l = eqb (l .modes .local) modem
 
+-- a call on a line's channels asks "NOLINE, MODE"
+abbrev pub insideTests : Line → List Test
+insideTests l = must (l .opened) NOLINE ∷ must (inRelay l) MODE ∷ []
+
 -- "message call not naming 1 or 2"
 abbrev pub reliable : ℕ → Bool
 reliable channel = eqb channel 1 || eqb channel 2
 
+-- and a call on a reliable one
 unfoldable pub relayTests : Line → ℕ → List Test
-relayTests l channel = must (l .opened) NOLINE ∷ must (inRelay l) MODE ∷ must (reliable channel) CHANNEL ∷ []
+relayTests l channel = insideTests l ++ (must (reliable channel) CHANNEL ∷ [])

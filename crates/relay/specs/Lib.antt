@@ -1,4 +1,3 @@
 pub mod Asked
 pub mod Take
 pub mod HandOut
-pub mod Write

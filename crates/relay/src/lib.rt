@@ -9,39 +9,48 @@ ghost use lib.ListN.{length, drop};
 ghost use Rattle.ground.specs.Refusal.{verdict};
 ghost use Rattle.ground.specs.declared.Verdict.the-variants.{Pass};
 ghost use Rattle.line.specs.Fit.{lineFits};
-ghost use Rattle.relay.specs.Asked.{relayTests};
+ghost use Rattle.relay.specs.Asked.{insideTests, relayTests};
 ghost use Rattle.channel.specs.Sending.{heldCount};
 ghost use Rattle.channel.specs.Receiving.{nextSize};
 ghost use Rattle.line.specs.Line.{sendingOf, receivingOf};
 ghost use Rattle.relay.specs.HandOut.{handCallTests, handedOctets, handedLine};
-ghost use Rattle.ground.specs.declared.Written.{Written};
-ghost use Rattle.relay.specs.Write.{acksFor, wroteLine, baseFor, headFor, emptyPacket, emptyTests};
 ghost use Rattle.relay.specs.Take.{takeCallTests, tookLine, tookStore};
 use channel::Channel;
 use ground::Refusal;
 use ground::Verdict;
-use ground::Written;
 use line::Line;
 use mode::Modes;
-use packet::Acks;
-use packet::Head;
 use store::Region;
 use store::Way;
 
-// What every relay call asks first: NOLINE, MODE, CHANNEL.
-pub fn asked(l: Line, channel: u8) -> Verdict
-    ensures { λ r. ⌜ r ≡ verdict (relayTests l channel) ⌝ }
+// What every call on a line's channels asks first: NOLINE, MODE.
+pub fn inside(l: Line) -> Verdict
+    ensures { λ r. ⌜ r ≡ verdict (insideTests l) ⌝ }
 {
     if !l.opened {
         return Verdict::Refuse(Refusal::NOLINE);
     }
-    if l.modes.local != Modes::MODEM {
-        return Verdict::Refuse(Refusal::MODE);
-    }
-    if (channel == 1) | (channel == 2) {
+    if l.modes.local == Modes::MODEM {
         Verdict::Pass
     } else {
-        Verdict::Refuse(Refusal::CHANNEL)
+        Verdict::Refuse(Refusal::MODE)
+    }
+}
+
+// And what a call on a reliable channel asks: NOLINE, MODE, CHANNEL.
+pub fn asked(l: Line, channel: u8) -> Verdict
+    ensures { λ r. ⌜ r ≡ verdict (relayTests l channel) ⌝ }
+{
+    let first = inside(l);
+    match first {
+        Verdict::Refuse(r) => Verdict::Refuse(r),
+        Verdict::Pass => {
+            if (channel == 1) | (channel == 2) {
+                Verdict::Pass
+            } else {
+                Verdict::Refuse(Refusal::CHANNEL)
+            }
+        }
     }
 }
 
@@ -122,90 +131,4 @@ pub fn held(l: Line, channel: u8) -> u32
     ensures { λ r. ⌜ r ≡ heldCount (sendingOf l channel) ⌝ }
 {
     l.sending(channel).held()
-}
-
-// What a call that writes a packet leaves: the line, and how many octets were written.
-pub struct Sent {
-    pub line: Line,
-    pub answer: Written,
-}
-
-// The acknowledgements that the next packet carries.
-fn acks_for(l: Line) -> Acks
-    ensures { λ r. ⌜ r ≡ acksFor l ⌝ }
-{
-    let three = l.owed.first_three();
-    Acks {
-        count: three.count,
-        first: three.one,
-        second: three.two,
-        third: three.three,
-    }
-}
-
-// The line once they have left its list.
-fn wrote_line(l: Line) -> Line
-    requires { ⌜ l .owed .count ≤ 64 ⌝ }
-    ensures { λ r. ⌜ r ≡ wroteLine l ⌝ }
-{
-    let owed = l.owed.without_three();
-    Line { owed, ..l }
-}
-
-// The base that a packet on the channel carries, in its 14 bits.
-fn base_for(l: Line, channel: u8) -> u16
-    ensures { λ r. ⌜ r ≡ baseFor l channel ⌝ }
-{
-    if channel == 0 {
-        return 0;
-    }
-    (l.receiving(channel).next & 0x3fff) as u16
-}
-
-// The head of a packet that the line writes.
-fn head_for(l: Line, channel: u8, number: u16) -> Head
-    ensures { λ r. ⌜ r ≡ headFor l channel number ⌝ }
-{
-    let base = base_for(l, channel);
-    Head {
-        identifier: l.identifier,
-        kind: l.kind,
-        channel,
-        number,
-        base,
-    }
-}
-
-// May an empty packet be written into `room` octets? NOLINE, MODE, CHANNEL, ROOM.
-pub fn may_write_empty(l: Line, channel: u8, room: usize) -> Verdict
-    ensures { λ r. ⌜ r ≡ verdict (emptyTests l channel room) ⌝ }
-{
-    if !l.opened {
-        return Verdict::Refuse(Refusal::NOLINE);
-    }
-    if l.modes.local != Modes::MODEM {
-        return Verdict::Refuse(Refusal::MODE);
-    }
-    if 2 < channel {
-        return Verdict::Refuse(Refusal::CHANNEL);
-    }
-    let acks = acks_for(l);
-    if 6 + 2 * (acks.count as usize) <= room {
-        Verdict::Pass
-    } else {
-        Verdict::Refuse(Refusal::ROOM)
-    }
-}
-
-// Writes an empty packet.
-pub fn write_empty(l: Line, channel: u8, out: &mut [u8]) -> Sent
-    requires { ⌜ (lineFits l ≡ true) × (verdict (emptyTests l channel (length (now out))) ≡ Pass) ⌝ }
-    ensures { λ r. ⌜ (r .line ≡ wroteLine l) × (r .answer ≡ Written.Wrote (length (emptyPacket l channel))) × (now (out .exit) ≡ emptyPacket l channel ++ drop (length (emptyPacket l channel)) (now (out .entry))) ⌝ }
-{
-    let none = [0u8; 1];
-    let head = head_for(l, channel, 0);
-    let acks = acks_for(l);
-    let answer = packet::write_packet(out, head, acks, &none[..0], 132);
-    let line = wrote_line(l);
-    Sent { line, answer }
 }

@@ -1,7 +1,7 @@
-use Rattle.relay.specs.Write.{wroteLine}
+use Rattle.writing.specs.Write.{wroteLine}
 use borrow.Author.Needs.{needs}
-use Rattle.relay.proofs.wrote_line.Statement.{statement}
-use Rattle.relay.proofs.wrote_line.Tie as tie
+use Rattle.writing.proofs.wrote_line.Statement.{statement}
+use Rattle.writing.proofs.wrote_line.Tie as tie
 
 without-three-requires : tie.Need-without-three-requires
 without-three-requires c κs = search needs

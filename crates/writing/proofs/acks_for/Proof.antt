@@ -1,7 +1,7 @@
-use Rattle.relay.specs.Write.{acksFor}
+use Rattle.writing.specs.Write.{acksFor}
 use borrow.Author.Needs.{needs}
-use Rattle.relay.proofs.acks_for.Statement.{statement}
-use Rattle.relay.proofs.acks_for.Tie as tie
+use Rattle.writing.proofs.acks_for.Statement.{statement}
+use Rattle.writing.proofs.acks_for.Tie as tie
 
 first-three-requires : tie.Need-first-three-requires
 first-three-requires c κs = search needs

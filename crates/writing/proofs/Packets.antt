@@ -27,7 +27,7 @@ use Rattle.owed.proofs.Steps.{owed-ok}
 use Rattle.line.specs.Fit.{largest, lineFits}
 use Rattle.line.specs.declared.Line.{Line}
 use Rattle.line.proofs.Keeps.{LineOk, line-ok}
-use Rattle.relay.specs.Write.{acksFor, baseFor, headFor, emptyPacket, emptyTests}
+use Rattle.writing.specs.Write.{acksFor, baseFor, headFor, headerFor, emptyPacket, emptyTests}
 
 -- an owed word names a channel that is served
 span-served : (w : ℕ) → spanFits w ≡ true → served w ≡ true
@@ -94,9 +94,9 @@ module _ (l : Line) where
       passes (writeTests (headFor l channel number) (acksFor l) payload largest room) (f, (g, (z, (le-leb _ _ r, tt))))
 
 -- an empty packet is its header
-pub empty-length : (l : Line) (channel : ℕ) {a : Acks} → a ≡ acksFor l → length (emptyPacket l channel) ≡ 6 + 2 * a .count
+pub empty-length : (l : Line) (channel : ℕ) → length (emptyPacket l channel) ≡ headerFor l
 unfolding emptyPacket
-empty-length l channel e = packet-length (headFor l channel 0) (acksFor l) (acks-few l) [] ∙ omega (arith, ap (λ (b : Acks). b .count) e)
+empty-length l channel = packet-length (headFor l channel 0) (acksFor l) (acks-few l) [] ∙ omega arith
 
 -- all tests before an empty packet is written pass: then it is written
 module _ (l : Line) (fits : lineFits l ≡ true) (channel room : ℕ) (pass : verdict (emptyTests l channel room) ≡ Pass) where
@@ -120,7 +120,7 @@ module _ (l : Line) (fits : lineFits l ≡ true) (channel room : ℕ) (pass : ve
 
   pub empty-passes : verdict (writeTests (headFor l channel 0) (acksFor l) [] largest room) ≡ Pass
   unfolding emptyTests emptyPacket
-  empty-passes = packet-passes l ok channel 0 room [] (leb-true _ _ (tests .1 .1 .0)) (omega arith) placed fitting (leb-true _ _ (tests .1 .1 .1 .0))
+  empty-passes = packet-passes l ok channel 0 room [] (leb-true _ _ (tests .1 .1 .0)) (omega arith) placed fitting (rw (empty-length l channel) (leb-true _ _ (tests .1 .1 .1 .0)))
 
 -- what the packet's writer promises, where its tests pass
 pub written-out : {ts : List Test} {octets before after : List ℕ} {r : Written} → Writes ts octets before after r → verdict ts ≡ Pass

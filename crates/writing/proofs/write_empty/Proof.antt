@@ -1,10 +1,10 @@
-use Rattle.relay.specs.Write.{emptyPacket}
+use Rattle.writing.specs.Write.{emptyPacket}
 use lib.ListN.{length}
 use denote.Ref.{now}
-use Rattle.relay.proofs.Packets.{empty-owes, empty-passes, written-out}
+use Rattle.writing.proofs.Packets.{empty-owes, empty-passes, written-out}
 use borrow.Author.Needs.{needs}
-use Rattle.relay.proofs.write_empty.Statement.{statement}
-use Rattle.relay.proofs.write_empty.Tie as tie
+use Rattle.writing.proofs.write_empty.Statement.{statement}
+use Rattle.writing.proofs.write_empty.Tie as tie
 
 head-for-requires : tie.Need-head-for-requires
 head-for-requires c κs = search needs

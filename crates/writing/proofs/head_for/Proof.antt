@@ -1,6 +1,6 @@
 use borrow.Author.Needs.{needs}
-use Rattle.relay.proofs.head_for.Statement.{statement}
-use Rattle.relay.proofs.head_for.Tie as tie
+use Rattle.writing.proofs.head_for.Statement.{statement}
+use Rattle.writing.proofs.head_for.Tie as tie
 
 base-for-requires : tie.Need-base-for-requires
 base-for-requires c κs = search needs

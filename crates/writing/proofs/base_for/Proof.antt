@@ -5,10 +5,10 @@ use lib.Bits.{mask-lt, and-mask}
 use borrow.Author.Tests.{eq-eqb, ne-eqb}
 use Rattle.channel.specs.Channel.{modulus}
 use Rattle.channel.specs.declared.receiving.Receiving.{Receiving}
-use Rattle.relay.specs.Write.{baseFor}
+use Rattle.writing.specs.Write.{baseFor}
 use borrow.Author.Needs.{needs}
-use Rattle.relay.proofs.base_for.Statement.{statement}
-use Rattle.relay.proofs.base_for.Tie as tie
+use Rattle.writing.proofs.base_for.Statement.{statement}
+use Rattle.writing.proofs.base_for.Tie as tie
 
 returns : tie.Need-returns
 unfolding baseFor

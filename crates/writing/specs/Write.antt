@@ -1,12 +1,11 @@
 -- What a line writes: the head and the acknowledgements of its packets, and what is left of its owed list.
 -- Assumes nothing.
-use Prim.Native.Nat.{ℕ, _%_}
-use mathlib.Core.List.{List, [], _∷_}
+use Prim.Native.Nat.{ℕ, _+_, _*_, _%_}
+use mathlib.Core.List.{List, [], _∷_, _++_}
 use lib.Dec.{leb, eqb}
-use lib.ListN.{length}
 use Rattle.ground.specs.Pick.{pick}
 use Rattle.ground.specs.Refusal.{Test, must}
-use Rattle.ground.specs.declared.Refusal.the-variants.{NOLINE, MODE, CHANNEL, ROOM}
+use Rattle.ground.specs.declared.Refusal.the-variants.{CHANNEL, ROOM}
 use Rattle.channel.specs.Channel.{modulus}
 use Rattle.packet.specs.Write.{packetOctets}
 use Rattle.packet.specs.declared.Head.{Head}
@@ -14,7 +13,7 @@ use Rattle.packet.specs.declared.Acks.{Acks}
 use Rattle.owed.specs.Owed.{firstThree, withoutThree}
 use Rattle.line.specs.Line.{receivingOf}
 use Rattle.line.specs.declared.Line.{Line}
-use Rattle.relay.specs.Asked.{inRelay}
+use Rattle.relay.specs.Asked.{insideTests}
 
 -- "every packet written carries the first three, or all if fewer"
 unfoldable pub acksFor : Line → Acks
@@ -41,6 +40,10 @@ baseFor l channel = pick (eqb channel 0) 0 (receivingOf l channel .next % modulu
 abbrev pub headFor : Line → ℕ → ℕ → Head
 headFor l channel number = record { identifier = l .identifier; kind = l .kind; channel = channel; number = number; base = baseFor l channel }
 
+-- "a header is 6, 8, 10 or 12 octets"
+abbrev pub headerFor : Line → ℕ
+headerFor l = 6 + 2 * acksFor l .count
+
 -- a packet without payload: its number is 0
 unfoldable pub emptyPacket : Line → ℕ → List ℕ
 emptyPacket l channel = packetOctets (headFor l channel 0) (acksFor l) []
@@ -48,8 +51,4 @@ emptyPacket l channel = packetOctets (headFor l channel 0) (acksFor l) []
 -- "Empty packet: NOLINE, MODE, CHANNEL, ROOM"; "empty-packet call not naming 0 to 2"
 unfoldable pub emptyTests : Line → ℕ → ℕ → List Test
 emptyTests l channel room =
-    must (l .opened) NOLINE
-    ∷ must (inRelay l) MODE
-    ∷ must (leb channel 2) CHANNEL
-    ∷ must (leb (length (emptyPacket l channel)) room) ROOM
-    ∷ []
+    insideTests l ++ (must (leb channel 2) CHANNEL ∷ must (leb (headerFor l) room) ROOM ∷ [])

@@ -1,0 +1,115 @@
+// What a line writes: its packets with a message and those without. Document 01, 'Packets' and the paragraph 'Order'.
+// Each call is a verdict, worked out first, and an effect, made only where the verdict lets it pass. Every packet carries the
+// acknowledgements that the line owes, and they leave its list.
+ghost use mathlib.Core.Path.{_≡_};
+ghost use mathlib.Core.Bool.{true};
+ghost use Prim.Native.Nat.{_≤_, _<_};
+ghost use mathlib.Core.List.{_++_};
+ghost use lib.ListN.{length, drop};
+ghost use Rattle.ground.specs.Refusal.{verdict};
+ghost use Rattle.ground.specs.declared.Verdict.the-variants.{Pass};
+ghost use Rattle.ground.specs.declared.Written.{Written};
+ghost use Rattle.line.specs.Fit.{lineFits};
+ghost use Rattle.writing.specs.Write.{acksFor, wroteLine, baseFor, headFor, headerFor, emptyPacket, emptyTests};
+use channel::Channel;
+use ground::Refusal;
+use ground::Verdict;
+use ground::Written;
+use line::Line;
+use packet::Acks;
+use packet::Head;
+use store::Region;
+use store::Way;
+
+// What a call that writes a packet leaves: the line, and how many octets were written.
+pub struct Sent {
+    pub line: Line,
+    pub answer: Written,
+}
+
+// The acknowledgements that the next packet carries.
+fn acks_for(l: Line) -> Acks
+    ensures { λ r. ⌜ r ≡ acksFor l ⌝ }
+{
+    let three = l.owed.first_three();
+    Acks {
+        count: three.count,
+        first: three.one,
+        second: three.two,
+        third: three.three,
+    }
+}
+
+// The line once they have left its list.
+fn wrote_line(l: Line) -> Line
+    requires { ⌜ l .owed .count ≤ 64 ⌝ }
+    ensures { λ r. ⌜ r ≡ wroteLine l ⌝ }
+{
+    let owed = l.owed.without_three();
+    Line { owed, ..l }
+}
+
+// The base that a packet on the channel carries, in its 14 bits.
+fn base_for(l: Line, channel: u8) -> u16
+    ensures { λ r. ⌜ r ≡ baseFor l channel ⌝ }
+{
+    if channel == 0 {
+        return 0;
+    }
+    (l.receiving(channel).next & 0x3fff) as u16
+}
+
+// The head of a packet that the line writes.
+fn head_for(l: Line, channel: u8, number: u16) -> Head
+    ensures { λ r. ⌜ r ≡ headFor l channel number ⌝ }
+{
+    let base = base_for(l, channel);
+    Head {
+        identifier: l.identifier,
+        kind: l.kind,
+        channel,
+        number,
+        base,
+    }
+}
+
+// The length of a header that carries what the line owes.
+fn header_length(l: Line) -> usize
+    ensures { λ r. ⌜ r ≡ headerFor l ⌝ }
+{
+    let acks = acks_for(l);
+    6 + 2 * (acks.count as usize)
+}
+
+// May an empty packet be written into `room` octets? NOLINE, MODE, CHANNEL, ROOM.
+pub fn may_write_empty(l: Line, channel: u8, room: usize) -> Verdict
+    ensures { λ r. ⌜ r ≡ verdict (emptyTests l channel room) ⌝ }
+{
+    let first = relay::inside(l);
+    match first {
+        Verdict::Refuse(r) => Verdict::Refuse(r),
+        Verdict::Pass => {
+            if 2 < channel {
+                return Verdict::Refuse(Refusal::CHANNEL);
+            }
+            if header_length(l) <= room {
+                Verdict::Pass
+            } else {
+                Verdict::Refuse(Refusal::ROOM)
+            }
+        }
+    }
+}
+
+// Writes an empty packet.
+pub fn write_empty(l: Line, channel: u8, out: &mut [u8]) -> Sent
+    requires { ⌜ (lineFits l ≡ true) × (verdict (emptyTests l channel (length (now out))) ≡ Pass) ⌝ }
+    ensures { λ r. ⌜ (r .line ≡ wroteLine l) × (r .answer ≡ Written.Wrote (length (emptyPacket l channel))) × (now (out .exit) ≡ emptyPacket l channel ++ drop (length (emptyPacket l channel)) (now (out .entry))) ⌝ }
+{
+    let none = [0u8; 1];
+    let head = head_for(l, channel, 0);
+    let acks = acks_for(l);
+    let answer = packet::write_packet(out, head, acks, &none[..0], 132);
+    let line = wrote_line(l);
+    Sent { line, answer }
+}
