@@ -1,3 +1,4 @@
 pub mod Line
 pub mod Mode
 pub mod Fit
+pub mod Shape
