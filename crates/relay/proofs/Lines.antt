@@ -70,7 +70,7 @@ module _ (l : Line) (fits : lineFits l ≡ true) (channel : ℕ) (pass : verdict
   sending-ordered = sending-steps .ordered
 
 -- "message call not naming 1 or 2": a channel that passed is 1 or 2
-channel-span : (channel : ℕ) → reliable channel ≡ true → (1 ≤ channel) × (channel ≤ 2)
+pub channel-span : (channel : ℕ) → reliable channel ≡ true → (1 ≤ channel) × (channel ≤ 2)
 channel-span channel e =
     ⊎-elim (λ a. let h : channel ≡ 1 = eqb-true _ _ a in (omega arith, omega arith)) (λ b. let h : channel ≡ 2 = eqb-true _ _ b in (omega arith, omega arith))
     (or-cases (eqb channel 1) (eqb channel 2) e)

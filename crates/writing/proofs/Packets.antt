@@ -1,6 +1,6 @@
 -- A packet that a line writes may be written: what BOOK asks of the line gives all that the packet's own tests ask.
 -- Assumes nothing.
-use Prim.Native.Nat.{ℕ, zero, suc, _+_, _*_, _≤_, _<_, min}
+use Prim.Native.Nat.{ℕ, zero, suc, _≤_, _<_, min}
 use mathlib.Core.Path.{_≡_, refl, ap, _∙_}
 use mathlib.Core.Bool.{Bool, true}
 use mathlib.Core.List.{List, [], _∷_, _++_}
@@ -20,7 +20,6 @@ use Rattle.field.specs.Word.{channelOf}
 use Rattle.packet.specs.Acks.{served, named, blank, acksServed, acksBlank}
 use Rattle.packet.specs.Read.{sizeFits}
 use Rattle.packet.specs.Write.{packetOctets, numbersPlaced, fieldsFit, writeTests}
-use Rattle.packet.specs.declared.Acks.{Acks}
 use Rattle.packet.proofs.Writes.{packet-length}
 use Rattle.owed.specs.Owed.{owedOf, firstThree, spanFits, allSpans, owedFits}
 use Rattle.owed.proofs.Steps.{owed-ok}

@@ -10,8 +10,11 @@ ghost use Rattle.ground.specs.Refusal.{verdict};
 ghost use Rattle.ground.specs.declared.Verdict.the-variants.{Pass};
 ghost use Rattle.ground.specs.declared.Written.{Written};
 ghost use Rattle.line.specs.Fit.{lineFits};
+ghost use Rattle.writing.specs.Send.{maySend, heldPacket, Sendable};
 ghost use Rattle.writing.specs.Write.{acksFor, wroteLine, baseFor, headFor, headerFor, emptyPacket, emptyTests};
 use channel::Channel;
+use channel::Held;
+use channel::Ranked;
 use ground::Refusal;
 use ground::Verdict;
 use ground::Written;
@@ -25,6 +28,12 @@ use store::Way;
 pub struct Sent {
     pub line: Line,
     pub answer: Written,
+}
+
+// The held message that may be written, or why none may.
+pub enum MaySend {
+    Message(Held),
+    Refused(Refusal),
 }
 
 // The acknowledgements that the next packet carries.
@@ -110,6 +119,46 @@ pub fn write_empty(l: Line, channel: u8, out: &mut [u8]) -> Sent
     let head = head_for(l, channel, 0);
     let acks = acks_for(l);
     let answer = packet::write_packet(out, head, acks, &none[..0], 132);
+    let line = wrote_line(l);
+    Sent { line, answer }
+}
+
+// May the held message of a rank be written into `room` octets? NOLINE, MODE, CHANNEL, NOTHING, ROOM.
+pub fn may_send(l: Line, channel: u8, rank: u8, room: usize) -> MaySend
+    requires { ⌜ lineFits l ≡ true ⌝ }
+    ensures { λ r. ⌜ r ≡ maySend l channel rank room ⌝ }
+{
+    let first = relay::asked(l, channel);
+    match first {
+        Verdict::Refuse(r) => MaySend::Refused(r),
+        Verdict::Pass => {
+            let window = Channel::of(channel).window;
+            let found = l.sending(channel).ranked(window, rank as u32);
+            match found {
+                Ranked::Nothing => MaySend::Refused(Refusal::NOTHING),
+                Ranked::Is(h) => {
+                    if header_length(l) + (h.size as usize) <= room {
+                        MaySend::Message(h)
+                    } else {
+                        MaySend::Refused(Refusal::ROOM)
+                    }
+                }
+            }
+        }
+    }
+}
+
+// Writes a held message.
+pub fn send(l: Line, i: u8, store: &[u8], channel: u8, h: Held, out: &mut [u8]) -> Sent
+    requires { ⌜ (lineFits l ≡ true) × (i < 4) × (42240 ≤ length (now store)) × Sendable l channel (length (now out)) h ⌝ }
+    ensures { λ r. ⌜ (r .line ≡ wroteLine l) × (r .answer ≡ Written.Wrote (length (heldPacket l i channel h (now (store .entry))))) × (now (out .exit) ≡ heldPacket l i channel h (now (store .entry)) ++ drop (length (heldPacket l i channel h (now (store .entry)))) (now (out .entry))) ⌝ }
+{
+    let region = Region::of(i, Way::Sending, channel);
+    let at = region.room(h.place);
+    let end = at + h.size as usize;
+    let head = head_for(l, channel, (h.number & 0x3fff) as u16);
+    let acks = acks_for(l);
+    let answer = packet::write_packet(out, head, acks, &store[at..end], 132);
     let line = wrote_line(l);
     Sent { line, answer }
 }
