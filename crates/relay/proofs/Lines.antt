@@ -110,6 +110,9 @@ module _ (l : Line) (fits : lineFits l ≡ true) (channel n : ℕ) (pass : verdi
   unfolding takeCallTests
   parts = pass-both (relayTests l channel) (must (sizeFits largest n) SIZE ∷ takeTests (windowOf channel) (sendingOf l channel)) pass
 
+  pub take-asked : verdict (relayTests l channel) ≡ Pass
+  take-asked = parts .0
+
   rest : Holds (must (sizeFits largest n) SIZE ∷ takeTests (windowOf channel) (sendingOf l channel))
   rest = passed (must (sizeFits largest n) SIZE ∷ takeTests (windowOf channel) (sendingOf l channel)) (parts .1)
 
@@ -117,8 +120,14 @@ module _ (l : Line) (fits : lineFits l ≡ true) (channel n : ℕ) (pass : verdi
   unfolding relayTests
   take-reliable = passed (relayTests l channel) (parts .0) .1 .1 .0
 
+  pub take-fits : sizeFits largest n ≡ true
+  take-fits = rest .0
+
   pub take-size : n ≤ largest
-  take-size = leb-true _ _ (both-true (ltb 0 n) (leb n largest) (rest .0) .1)
+  take-size = leb-true _ _ (both-true (ltb 0 n) (leb n largest) take-fits .1)
+
+  pub take-side : verdict (takeTests (windowOf channel) (sendingOf l channel)) ≡ Pass
+  take-side = pass-both (must (sizeFits largest n) SIZE ∷ []) (takeTests (windowOf channel) (sendingOf l channel)) (parts .1) .1
 
   pub take-steps : SendingOk (windowOf channel) (sendingOf l channel)
   take-steps = sending-steps l fits channel (parts .0)
@@ -143,6 +152,12 @@ module _ (l : Line) (fits : lineFits l ≡ true) (channel room : ℕ) (pass : ve
 
   then-side : (verdict (handTests side) ≡ Pass) × (verdict (must (leb (nextSize side) room) ROOM ∷ []) ≡ Pass)
   then-side = pass-both (handTests side) (must (leb (nextSize side) room) ROOM ∷ []) (asked-first .1)
+
+  pub hand-asked : verdict (relayTests l channel) ≡ Pass
+  hand-asked = asked-first .0
+
+  pub hand-side : verdict (handTests (receivingOf l channel)) ≡ Pass
+  hand-side = then-side .0
 
   pub hand-reliable : reliable channel ≡ true
   unfolding relayTests
