@@ -1,0 +1,37 @@
+use Rattle.book.proofs.Facts.{somebody, open-somebody}
+use Rattle.book.specs.Book.{openIn, restingOf}
+use Rattle.owed.proofs.Lists.{member-append}
+use Rattle.owed.specs.Owed.{member}
+use mathlib.Core.Path.{sym, ap, ap₂, _∙_}
+use mathlib.Core.Bool.{Bool, _||_}
+use borrow.Author.Needs.{needs}
+use Rattle.book.proofs.Book.taken.Statement.{statement}
+use Rattle.book.proofs.Book.taken.Tie as tie
+
+rests-requires : tie.Need-rests-requires
+rests-requires c κs = search needs
+
+whose-requires : tie.Need-whose-requires
+whose-requires c κs = search needs
+
+enum-told : tie.Need-enum-told
+enum-told c = search needs
+
+enum-told-2 : tie.Need-enum-told-2
+enum-told-2 c = search needs
+
+returns : tie.Need-returns
+returns c =
+    let a = c .before .before .before .before .args in
+    let e = sym (c .before .before .whose .ensures) ∙ c .enum-told .given .1 in
+    sym (member-append (a .identifier) (openIn (a .self .lines)) (restingOf (a .self)) ∙ ap (λ (t : Bool). t || member (a .identifier) (restingOf (a .self))) (open-somebody 0 (a .self .lines) (a .identifier) ∙ ap somebody e))
+
+returns-2 : tie.Need-returns-2
+returns-2 c =
+    let a = c .before .before .before .before .args in
+    let e = sym (c .before .before .whose .ensures) ∙ c .enum-told2 .given .1 in
+    sym (member-append (a .identifier) (openIn (a .self .lines)) (restingOf (a .self)) ∙ ap₂ (λ (t u : Bool). t || u) (open-somebody 0 (a .self .lines) (a .identifier) ∙ ap somebody e) (sym (c .before .before .before .rests .ensures)))
+
+pub taken-spec : {M : Type 1} → statement M
+taken-spec =
+    tie.close (tie.spec rests-requires whose-requires enum-told enum-told-2 returns returns-2)

@@ -1,0 +1,4 @@
+pub mod Turns
+pub mod Resting
+pub mod Once
+pub mod Facts

@@ -1,0 +1,94 @@
+-- One turn of each loop, over the lines and over those that rest: what is left of a list decides what the whole list does.
+-- Assumes nothing.
+use Prim.Native.Nat.{ℕ, zero, suc, _+_, _≤_, _<_}
+use mathlib.Core.Path.{_≡_, refl, sym, ap, _∙_}
+use mathlib.Core.Bool.{true, false, _&&_}
+use mathlib.Core.List.{List, [], _∷_, map}
+use native.Mathlib.Numerals.{add-one}
+use native.Mathlib.Omega.{arith}
+use lib.Dec.{eqb}
+use lib.ListN.{length, getD, take, drop, drop-of-length-le, length-take, length-map}
+use lib.Seq.{drop-cons, getD-take, length-take-le}
+use borrow.Author.Tests.{lt-leb, le-leb}
+use Rattle.line.specs.Fit.{lineFits}
+use Rattle.line.specs.declared.Line.{Line}
+use Rattle.book.specs.Book.{openIn, linesFit, allSpan, whoseFrom}
+use Rattle.book.specs.declared.Whose.the-variants.{At, Nobody}
+
+-- an array of structs has as many elements as its declaration says
+pub many : {A B : Type 0} (f : A → B) (l : List A) {n : ℕ} → length (map f l) ≡ n → length l ≡ n
+many f l e = sym (length-map l f) ∙ e
+
+-- inside a list the element that stands for none does not matter
+pub getD-any {ℓ} : {A : Type ℓ} (l : List A) (i : ℕ) (d e : A) → i < length l → getD l i d ≡ getD l i e
+getD-any [] i d e h = absurd (omega arith)
+getD-any (x ∷ l) zero d e h = refl
+getD-any (x ∷ l) (suc i) d e h = getD-any l i d e (omega arith)
+
+-- what is left from place i on: the element there, and what is left behind it
+left {ℓ} : {A : Type ℓ} (l : List A) (i : ℕ) (d : A) → i < length l → drop i l ≡ getD l i d ∷ drop (i + 1) l
+left l i d h = drop-cons l i d h ∙ ap (λ (n : ℕ). getD l i d ∷ drop n l) (sym (add-one i))
+
+module _ (ls : List Line) (i : ℕ) (d : Line) (h : i < length ls) where
+  -- the line has the identifier, or another has
+  pub whose-here : (x : ℕ) → (getD ls i d .opened && eqb (getD ls i d .identifier) x) ≡ true → whoseFrom i (drop i ls) x ≡ At i
+  unfolding whoseFrom
+  whose-here x e = rw (left ls i d h, e)
+
+  pub whose-on : (x : ℕ) → (getD ls i d .opened && eqb (getD ls i d .identifier) x) ≡ false → whoseFrom (i + 1) (drop (i + 1) ls) x ≡ whoseFrom i (drop i ls) x
+  unfolding whoseFrom
+  whose-on x e = sym (rw (left ls i d h, e, ← add-one i))
+
+  -- the line fits, or it does not
+  pub lines-on : lineFits (getD ls i d) ≡ true → linesFit (drop (i + 1) ls) ≡ linesFit (drop i ls)
+  unfolding linesFit
+  lines-on e = sym (rw (left ls i d h, e))
+
+  pub lines-lost : lineFits (getD ls i d) ≡ false → linesFit (drop i ls) ≡ false
+  unfolding linesFit
+  lines-lost e = rw (left ls i d h, e)
+
+  -- the line is open, or it is closed
+  pub open-here : getD ls i d .opened ≡ true → openIn (drop i ls) ≡ getD ls i d .identifier ∷ openIn (drop (i + 1) ls)
+  unfolding openIn
+  open-here e = rw (left ls i d h, e)
+
+  pub open-on : getD ls i d .opened ≡ false → openIn (drop i ls) ≡ openIn (drop (i + 1) ls)
+  unfolding openIn
+  open-on e = rw (left ls i d h, e)
+
+-- no line is left
+module _ (ls : List Line) (i : ℕ) (h : length ls ≤ i) where
+  pub whose-end : (x : ℕ) → whoseFrom i (drop i ls) x ≡ Nobody
+  unfolding whoseFrom
+  whose-end x = rw (drop-of-length-le ls h)
+
+  pub lines-end : linesFit (drop i ls) ≡ true
+  unfolding linesFit
+  lines-end = rw (drop-of-length-le ls h)
+
+  pub open-end : openIn (drop i ls) ≡ []
+  unfolding openIn
+  open-end = rw (drop-of-length-le ls h)
+
+-- Those that rest: each is one of 0 to 127, or one is not.
+module _ (l : List ℕ) (n i : ℕ) (k : i < n) (h : n ≤ length l) where
+  pub rest-here : drop i (take n l) ≡ getD l i 0 ∷ drop (i + 1) (take n l)
+  rest-here =
+      left (take n l) i 0 (omega (arith, length-take-le n l h))
+      ∙ ap (λ (x : ℕ). x ∷ drop (i + 1) (take n l)) (getD-take n l i 0 k)
+
+  pub span-on : getD l i 0 ≤ 127 → allSpan (drop (i + 1) (take n l)) ≡ allSpan (drop i (take n l))
+  unfolding allSpan
+  span-on e = sym (rw (rest-here, le-leb _ _ e))
+
+  pub span-lost : 127 < getD l i 0 → allSpan (drop i (take n l)) ≡ false
+  unfolding allSpan
+  span-lost e = rw (rest-here, lt-leb _ _ e)
+
+pub rest-end : (l : List ℕ) (n i : ℕ) → n ≤ i → drop i (take n l) ≡ []
+rest-end l n i h = drop-of-length-le (take n l) {i = i} (omega (arith, length-take n l))
+
+pub span-end : (l : List ℕ) (n i : ℕ) → n ≤ i → allSpan (drop i (take n l)) ≡ true
+unfolding allSpan
+span-end l n i h = rw (rest-end l n i h)

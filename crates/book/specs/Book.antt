@@ -1,0 +1,65 @@
+-- A gateway's book: four lines, and the identifiers that rest. What BOOK (row 18) asks of it.
+-- Assumes nothing.
+use Prim.Native.Nat.{ℕ, suc}
+use mathlib.Core.Bool.{Bool, true, _&&_}
+use mathlib.Core.List.{List, [], _∷_, _++_}
+use lib.Dec.{eqb, leb}
+use lib.ListN.{getD, set, take, replicate}
+use Rattle.ground.specs.Pick.{pick, allHold}
+use Rattle.owed.specs.Owed.{member, noTwice}
+use Rattle.line.specs.Line.{closedLine}
+use Rattle.line.specs.Fit.{lineFits}
+use Rattle.line.specs.declared.Line.{Line}
+use Rattle.book.specs.declared.Book.{Book}
+use Rattle.book.specs.declared.Whose.{Whose}
+use Rattle.book.specs.declared.Whose.the-variants.{At, Nobody}
+
+-- "as in a fresh book": four closed lines, and nothing rests
+abbrev pub freshBook : Book
+freshBook = record { lines = replicate 4 closedLine; resting = replicate 16 0; rested = 0 }
+
+-- line i
+abbrev pub lineOf : Book → ℕ → Line
+lineOf b i = getD (b .lines) i closedLine
+
+-- the book with line i anew: every call on a line leaves this
+abbrev pub withLine : Book → ℕ → Line → Book
+withLine b i l = record { lines = set (b .lines) i l; resting = b .resting; rested = b .rested }
+
+-- the identifiers of the open lines
+unfoldable pub openIn : List Line → List ℕ
+openIn [] = []
+openIn (l ∷ ls) = pick (l .opened) (l .identifier ∷ openIn ls) (openIn ls)
+
+-- those that rest, oldest first; what stands behind them is of no account
+abbrev pub restingOf : Book → List ℕ
+restingOf b = take (b .rested) (b .resting)
+
+-- "among open and resting"
+abbrev pub identifiersOf : Book → List ℕ
+identifiersOf b = openIn (b .lines) ++ restingOf b
+
+unfoldable pub linesFit : List Line → Bool
+linesFit [] = true
+linesFit (l ∷ ls) = lineFits l && linesFit ls
+
+-- identifiers are 0 to 127
+unfoldable pub allSpan : List ℕ → Bool
+allSpan [] = true
+allSpan (x ∷ xs) = leb x 127 && allSpan xs
+
+-- what BOOK asks: of each line; of the last 16 closed; and "one identifier twice among open and resting"
+unfoldable pub bookFits : Book → Bool
+bookFits b = allHold (linesFit (b .lines) ∷ leb (b .rested) 16 ∷ allSpan (restingOf b) ∷ noTwice (identifiersOf b) ∷ [])
+
+-- the open line that has the identifier: the first from the front, where k lines stand before these
+unfoldable pub whoseFrom : ℕ → List Line → ℕ → Whose
+whoseFrom k [] identifier = Nobody
+whoseFrom k (l ∷ ls) identifier = pick (l .opened && eqb (l .identifier) identifier) (At k) (whoseFrom (suc k) ls identifier)
+
+abbrev pub whose : Book → ℕ → Whose
+whose b identifier = whoseFrom 0 (b .lines) identifier
+
+-- "An identifier open on another line is taken. So is one among the last 16 closed."
+abbrev pub taken : Book → ℕ → Bool
+taken b identifier = member identifier (identifiersOf b)

@@ -1,0 +1,229 @@
+// A gateway's book, by value: four lines, and the identifiers of the last sixteen that were closed. Here is what BOOK asks of
+// it, how a packet's line is found, and how an identifier goes to rest. What the calls do to a line is left to others.
+ghost use mathlib.Core.Path.{_≡_};
+ghost use mathlib.Core.Bool.{true};
+ghost use Prim.Native.Nat.{_≤_, _<_};
+ghost use lib.ListN.{take};
+ghost use Rattle.book.specs.Book.{freshBook, lineOf, withLine, restingOf, openIn, identifiersOf, linesFit, allSpan, bookFits, whose, taken};
+ghost use Rattle.book.specs.Rest.{rests, restedIn, closedAt};
+ghost use Rattle.owed.specs.Owed.{member, noTwice};
+ghost use Rattle.book.specs.Marks.{newIn, marked, none};
+use line::Line;
+
+pub struct Book {
+    pub lines: [Line; 4],
+    // The identifiers that rest, oldest first, and behind them what is of no account.
+    pub resting: [u8; 16],
+    // How many rest. At most 16.
+    pub rested: u8,
+}
+
+// The line that has an identifier.
+pub enum Whose {
+    At(u8),
+    Nobody,
+}
+
+// Which identifiers were seen, 1 for each, and whether none of them came twice.
+struct Seen {
+    marks: [u8; 128],
+    once: bool,
+}
+
+impl Book {
+    // Four closed lines, and nothing rests.
+    pub fn fresh() -> Book
+        ensures { λ r. ⌜ r ≡ freshBook ⌝ }
+    {
+        let closed = Line::closed();
+        let lines = [closed; 4];
+        let resting = [0u8; 16];
+        Book {
+            lines,
+            resting,
+            rested: 0,
+        }
+    }
+
+    pub fn line(self, i: u8) -> Line
+        requires { ⌜ i < 4 ⌝ }
+        ensures { λ r. ⌜ r ≡ lineOf self i ⌝ }
+    {
+        self.lines[i as usize]
+    }
+
+    // The book with that line anew.
+    pub fn with_line(self, i: u8, line: Line) -> Book
+        requires { ⌜ i < 4 ⌝ }
+        ensures { λ r. ⌜ r ≡ withLine self i line ⌝ }
+    {
+        let mut next = self;
+        next.lines[i as usize] = line;
+        next
+    }
+
+    // The open line that has the identifier.
+    pub fn whose(self, identifier: u8) -> Whose
+        ensures { λ r. ⌜ r ≡ whose self identifier ⌝ }
+    {
+        let mut i = 0;
+        while i < 4 {
+            if self.lines[i].opened & (self.lines[i].identifier == identifier) {
+                return Whose::At(i as u8);
+            }
+            i += 1;
+        }
+        Whose::Nobody
+    }
+
+    // Does the identifier rest?
+    fn rests(self, identifier: u8) -> bool
+        requires { ⌜ self .rested ≤ 16 ⌝ }
+        ensures { λ r. ⌜ r ≡ member identifier (restingOf self) ⌝ }
+    {
+        let n = self.rested as usize;
+        let mut i = 0;
+        while i < n {
+            if self.resting[i] == identifier {
+                return true;
+            }
+            i += 1;
+        }
+        false
+    }
+
+    // Is the identifier open on a line, or resting?
+    pub fn taken(self, identifier: u8) -> bool
+        requires { ⌜ self .rested ≤ 16 ⌝ }
+        ensures { λ r. ⌜ r ≡ taken self identifier ⌝ }
+    {
+        let resting = self.rests(identifier);
+        match self.whose(identifier) {
+            Whose::At(_) => true,
+            Whose::Nobody => resting,
+        }
+    }
+}
+
+// The array of those that rest once one more does; the oldest leaves it where it is full.
+fn rested(resting: [u8; 16], n: u8, identifier: u8) -> [u8; 16]
+    requires { ⌜ n ≤ 16 ⌝ }
+    ensures { λ r. ⌜ r ≡ restedIn resting (rests (take n resting) identifier) ⌝ }
+{
+    let mut next = resting;
+    if n < 16 {
+        next[n as usize] = identifier;
+        return next;
+    }
+    let mut i = 0;
+    while i < 15 {
+        next[i] = resting[i + 1];
+        i += 1;
+    }
+    next[15] = identifier;
+    next
+}
+
+impl Book {
+    // The book once line i is closed: its record is as in a fresh book, and its identifier rests.
+    pub fn closed_at(self, i: u8) -> Book
+        requires { ⌜ (i < 4) × (self .rested ≤ 16) ⌝ }
+        ensures { λ r. ⌜ r ≡ closedAt self i ⌝ }
+    {
+        let identifier = self.lines[i as usize].identifier;
+        let closed = Line::closed();
+        let mut next = self;
+        next.lines[i as usize] = closed;
+        next.resting = rested(self.resting, self.rested, identifier);
+        if self.rested < 16 {
+            next.rested = self.rested + 1;
+        }
+        next
+    }
+}
+
+impl Book {
+    // Does each line meet what BOOK asks of it?
+    fn lines_fit(self) -> bool
+        ensures { λ r. ⌜ r ≡ linesFit (self .lines) ⌝ }
+    {
+        let mut i = 0;
+        while i < 4 {
+            if !self.lines[i].fits() {
+                return false;
+            }
+            i += 1;
+        }
+        true
+    }
+
+    // Is each identifier that rests one of 0 to 127?
+    fn resting_span(self) -> bool
+        requires { ⌜ self .rested ≤ 16 ⌝ }
+        ensures { λ r. ⌜ r ≡ allSpan (restingOf self) ⌝ }
+    {
+        let n = self.rested as usize;
+        let mut i = 0;
+        while i < n {
+            if 127 < self.resting[i] {
+                return false;
+            }
+            i += 1;
+        }
+        true
+    }
+
+    // The identifiers of the open lines, marked.
+    fn open_seen(self) -> Seen
+        requires { ⌜ linesFit (self .lines) ≡ true ⌝ }
+        ensures { λ r. ⌜ (r .once ≡ newIn none (openIn (self .lines))) × (r .marks ≡ marked none (openIn (self .lines))) ⌝ }
+    {
+        let mut marks = [0u8; 128];
+        let mut once = true;
+        let mut i = 0;
+        while i < 4 {
+            if self.lines[i].opened {
+                let identifier = self.lines[i].identifier as usize;
+                once = once & (marks[identifier] == 0);
+                marks[identifier] = 1;
+            }
+            i += 1;
+        }
+        Seen { marks, once }
+    }
+
+    // Is no identifier there twice, among open and resting?
+    fn no_twice(self) -> bool
+        requires { ⌜ (linesFit (self .lines) ≡ true) × (self .rested ≤ 16) × (allSpan (restingOf self) ≡ true) ⌝ }
+        ensures { λ r. ⌜ r ≡ noTwice (identifiersOf self) ⌝ }
+    {
+        let seen = self.open_seen();
+        let mut marks = seen.marks;
+        let mut once = seen.once;
+        let n = self.rested as usize;
+        let mut i = 0;
+        while i < n {
+            let identifier = self.resting[i] as usize;
+            once = once & (marks[identifier] == 0);
+            marks[identifier] = 1;
+            i += 1;
+        }
+        once
+    }
+
+    // What BOOK asks.
+    pub fn fits(self) -> bool
+        ensures { λ r. ⌜ r ≡ bookFits self ⌝ }
+    {
+        if !self.lines_fit() {
+            return false;
+        }
+        if 16 < self.rested {
+            return false;
+        }
+        if !self.resting_span() {
+            return false;
+        }
+        self.no_twice()
+    }
+}
