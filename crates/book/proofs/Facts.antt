@@ -1,23 +1,40 @@
--- What BOOK asks of a book, as facts.
+-- What BOOK asks of a book, as facts: of each line, of its identifier, and of those that rest.
 -- Assumes nothing.
 use Prim.Native.Nat.{ℕ, zero, suc, _≤_, _<_}
 use mathlib.Core.Path.{_≡_, refl}
-use mathlib.Core.Bool.{Bool, true, false, _&&_}
+use mathlib.Core.Bool.{true}
 use mathlib.Core.List.{List, [], _∷_, _++_}
 use native.Mathlib.Omega.{arith}
-use lib.Dec.{leb, eqb}
+use native.Mathlib.Decide.{decLt}
+use lib.Dec.{leb}
+use lib.ListN.{length, getD, take, drop, List·getD-eq-default}
 use lib.Seq.{getD-take}
-use lib.ListN.{length, getD, take}
-use borrow.Author.Tests.{leb-true}
-use Rattle.ground.specs.Pick.{pick}
+use borrow.Author.Tests.{leb-true, le-leb}
 use Rattle.ground.proofs.Picks.{both-true, each, pick-by}
+use Rattle.owed.specs.Owed.{noTwice}
+use Rattle.line.specs.Line.{closedLine}
 use Rattle.line.specs.Fit.{lineFits}
 use Rattle.line.specs.declared.Line.{Line}
-use Rattle.line.proofs.Keeps.{line-ok}
-use Rattle.book.specs.Book.{openIn, linesFit, allSpan, whoseFrom}
-use Rattle.book.specs.declared.Whose.{Whose}
-use Rattle.book.specs.declared.Whose.the-variants.{At, Nobody}
-use Rattle.owed.specs.Owed.{member}
+use Rattle.line.proofs.Keeps.{line-ok, closed-fits}
+use Rattle.book.specs.declared.Book.{Book}
+use Rattle.book.specs.Book.{openIn, linesFit, allSpan, bookFits, restingOf, identifiersOf, lineOf}
+
+pub record BookOk (b : Book) : Type 0 where
+  pub lines : linesFit (b .lines) ≡ true
+  pub few : b .rested ≤ 16
+  pub spans : allSpan (restingOf b) ≡ true
+  pub once : noTwice (identifiersOf b) ≡ true
+
+-- the test decides the facts
+pub book-ok : (b : Book) → bookFits b ≡ true → BookOk b
+unfolding bookFits
+book-ok b e =
+    let t = each (linesFit (b .lines) ∷ leb (b .rested) 16 ∷ allSpan (restingOf b) ∷ noTwice (identifiersOf b) ∷ []) e in
+    record { lines = t .0; few = leb-true _ _ (t .1 .0); spans = t .1 .1 .0; once = t .1 .1 .1 .0 }
+
+pub ok-book : (b : Book) → BookOk b → bookFits b ≡ true
+unfolding bookFits
+ok-book b k = rw (k .lines, le-leb _ _ (k .few), k .spans, k .once)
 
 -- each line fits
 pub lines-at : (ls : List Line) → linesFit ls ≡ true → (i : ℕ) (d : Line) → i < length ls → lineFits (getD ls i d) ≡ true
@@ -60,18 +77,16 @@ span-append (x ∷ a) b f g =
     let e = both-true (leb x 127) (allSpan a) f in
     rw (e .0, span-append a b (e .1) g)
 
--- an identifier is open exactly if a line has it
-abbrev pub somebody : Whose → Bool
-somebody (At i) = true
-somebody Nobody = false
+pub span-rest : (k : ℕ) (l : List ℕ) → allSpan l ≡ true → allSpan (drop k l) ≡ true
+unfolding allSpan
+span-rest zero l f = f
+span-rest (suc k) [] f = f
+span-rest (suc k) (x ∷ l) f = span-rest k l (both-true (leb x 127) (allSpan l) f .1)
 
-pub open-somebody : (k : ℕ) (ls : List Line) (x : ℕ) → member x (openIn ls) ≡ somebody (whoseFrom k ls x)
-unfolding member openIn whoseFrom
-open-somebody k [] x = refl
-open-somebody k (l ∷ ls) x = go (l .opened) (eqb (l .identifier) x) refl (open-somebody (suc k) ls x)
+-- each line of a book fits; past the end stands a closed one
+pub line-fits : (b : Book) → bookFits b ≡ true → (i : ℕ) → lineFits (lineOf b i) ≡ true
+line-fits b f i = go (decLt i (length (b .lines)))
   where
-    go : (t u : Bool) → eqb (l .identifier) x ≡ u → member x (openIn ls) ≡ somebody (whoseFrom (suc k) ls x)
-        → member x (pick t (l .identifier ∷ openIn ls) (openIn ls)) ≡ somebody (pick (t && u) (At k) (whoseFrom (suc k) ls x))
-    go true true e h = rw e
-    go true false e h = rw e h
-    go false u e h = h
+    go : Dec (i < length (b .lines)) → lineFits (lineOf b i) ≡ true
+    go (yes h) = lines-at (b .lines) (book-ok b f .lines) i closedLine h
+    go (no h) = rw (List·getD-eq-default (b .lines) closedLine {n = i} (omega arith)) (closed-fits closedLine refl)

@@ -2,3 +2,9 @@ pub mod Turns
 pub mod Resting
 pub mod Once
 pub mod Facts
+pub mod Around
+pub mod Owner
+pub mod Fresh
+pub mod Keeps
+pub mod Apart
+pub mod Unread

@@ -1,8 +1,8 @@
 -- Identifiers seen one after another and marked: none finds its place marked exactly if none stands in the list twice.
 -- Assumes nothing.
-use Prim.Native.Nat.{ℕ, zero, suc, _≤_, _<_}
+use Prim.Native.Nat.{ℕ, _≤_, _<_}
 use mathlib.Core.Path.{_≡_, refl, sym, ap, ap₂, _∙_}
-use mathlib.Core.Bool.{Bool, true, false, not, _&&_, _||_}
+use mathlib.Core.Bool.{Bool, true, false, not, _&&_, _||_, and-assoc, and-true}
 use mathlib.Core.List.{List, [], _∷_, _++_}
 use native.Mathlib.Omega.{arith}
 use lib.Dec.{eqb, leb, lit<}
@@ -13,11 +13,8 @@ use Rattle.ground.proofs.Picks.{both-true}
 use Rattle.ground.proofs.Either.{by-test}
 use Rattle.owed.specs.Owed.{member, noTwice}
 use Rattle.book.specs.Book.{allSpan}
+use Rattle.book.proofs.Turns.{getD-alike}
 use Rattle.book.specs.Marks.{newIn, marked, none}
-
-and-assoc : (a b c : Bool) → ((a && b) && c) ≡ (a && (b && c))
-and-assoc true b c = refl
-and-assoc false b c = refl
 
 -- What is still to be seen, after what was found and marked before, comes to t and to the marks n in the end.
 abbrev pub Comes : Bool → List ℕ → List ℕ → Bool → List ℕ → Type 0
@@ -33,10 +30,6 @@ module _ (o : Bool) (m : List ℕ) (t : Bool) (n : List ℕ) where
   pub comes-end : Comes o m [] t n → (o ≡ t) × (m ≡ n)
   unfolding newIn marked
   comes-end e = (sym (and-true o) ∙ e .0, e .1)
-    where
-      and-true : (a : Bool) → (a && true) ≡ a
-      and-true true = refl
-      and-true false = refl
 
 -- one list behind another
 pub new-append : (m a b : List ℕ) → newIn m (a ++ b) ≡ (newIn m a && newIn (marked m a) b)
@@ -89,12 +82,7 @@ new-is m (x ∷ l) h s =
 unmarked : (n : ℕ) (l : List ℕ) → allNew (replicate n 0) l ≡ true
 unfolding allNew
 unmarked n [] = refl
-unmarked n (x ∷ l) = rw (blank n x, unmarked n l)
-  where
-    blank : (n x : ℕ) → _≡_ {A = ℕ} (getD (replicate n 0) x 0) 0
-    blank zero x = refl
-    blank (suc n) zero = refl
-    blank (suc n) (suc x) = blank n x
+unmarked n (x ∷ l) = rw (getD-alike {A = ℕ} n x 0, unmarked n l)
 
 pub new-once : (l : List ℕ) → allSpan l ≡ true → newIn none l ≡ noTwice l
 new-once l s = new-is none l (lit< tt) s ∙ ap (λ (t : Bool). t && noTwice l) (unmarked 128 l)

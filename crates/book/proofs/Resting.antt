@@ -6,7 +6,7 @@ use mathlib.Core.List.{List, [], _∷_, _++_, append-assoc}
 use native.Mathlib.Numerals.{add-one}
 use native.Mathlib.Omega.{arith}
 use lib.ListN.{length, getD, set, take, drop, length-append, length-drop, drop-of-length-le}
-use lib.Seq.{paste, set-split, take-all, take-paste, length-paste, length-take-le, drop-append-le}
+use lib.Seq.{take-append-seam, paste, set-split, take-all, take-paste, length-paste, length-take-le, drop-append-le}
 use Rattle.line.specs.Line.{closedLine}
 use Rattle.line.specs.declared.Line.{Line}
 use Rattle.book.specs.declared.Book.{Book}
@@ -25,7 +25,10 @@ module _ (l : List ℕ) (x : ℕ) where
       let e : length (l ++ (x ∷ [])) - 16 ≡ 1 = omega (arith, length-append l (x ∷ [])) in
       ap (λ (n : ℕ). drop n (l ++ (x ∷ []))) e ∙ drop-append-le 1 l (x ∷ []) (omega arith)
 
-  -- how many rest then
+  -- how many rest then: never more than 16
+  pub rests-most : length (rests l x) ≤ 16
+  rests-most = let m = l ++ (x ∷ []) in omega (arith, length-drop (length m - 16) m)
+
   pub rests-count : length l ≤ 16 → length (rests l x) ≡ min 16 (length l + 1)
   rests-count h = let m = l ++ (x ∷ []) in omega (arith, length-drop (length m - 16) m, length-append l (x ∷ []))
 
@@ -65,3 +68,8 @@ closes b i n d h m k p q =
       resting = (q ∙ ap (λ (y : ℕ). restedIn (b .resting) (rests (restingOf b) y)) e) j;
       rested = (k ∙ sym (rests-count (restingOf b) x m)) j;
     }
+
+-- those that rest once a line is closed
+pub closed-resting : (b : Book) (i : ℕ) → restingOf (closedAt b i) ≡ rests (restingOf b) (lineOf b i .identifier)
+unfolding closedAt
+closed-resting b i = let l = rests (restingOf b) (lineOf b i .identifier) in take-append-seam l (drop (length l) (b .resting))

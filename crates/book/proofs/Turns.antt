@@ -1,4 +1,4 @@
--- One turn of each loop, over the lines and over those that rest: what is left of a list decides what the whole list does.
+-- One turn of each loop over the lines or over those that rest: what the rest of the list comes to, the whole comes to.
 -- Assumes nothing.
 use Prim.Native.Nat.{ℕ, zero, suc, _+_, _≤_, _<_}
 use mathlib.Core.Path.{_≡_, refl, sym, ap, _∙_}
@@ -7,7 +7,7 @@ use mathlib.Core.List.{List, [], _∷_, map}
 use native.Mathlib.Numerals.{add-one}
 use native.Mathlib.Omega.{arith}
 use lib.Dec.{eqb}
-use lib.ListN.{length, getD, take, drop, drop-of-length-le, length-take, length-map}
+use lib.ListN.{replicate, length, getD, take, drop, drop-of-length-le, length-take, length-map}
 use lib.Seq.{drop-cons, getD-take, length-take-le}
 use borrow.Author.Tests.{lt-leb, le-leb}
 use Rattle.line.specs.Fit.{lineFits}
@@ -24,6 +24,12 @@ pub getD-any {ℓ} : {A : Type ℓ} (l : List A) (i : ℕ) (d e : A) → i < len
 getD-any [] i d e h = absurd (omega arith)
 getD-any (x ∷ l) zero d e h = refl
 getD-any (x ∷ l) (suc i) d e h = getD-any l i d e (omega arith)
+
+-- a list of one element over and over has it everywhere, where it stands for none too
+pub getD-alike {ℓ} : {A : Type ℓ} (n i : ℕ) (a : A) → getD (replicate n a) i a ≡ a
+getD-alike zero i a = refl
+getD-alike (suc n) zero a = refl
+getD-alike (suc n) (suc i) a = getD-alike n i a
 
 -- what is left from place i on: the element there, and what is left behind it
 left {ℓ} : {A : Type ℓ} (l : List A) (i : ℕ) (d : A) → i < length l → drop i l ≡ getD l i d ∷ drop (i + 1) l

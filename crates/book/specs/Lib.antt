@@ -1,3 +1,4 @@
 pub mod Book
 pub mod Rest
+pub mod Shape
 pub mod Marks

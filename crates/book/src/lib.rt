@@ -203,9 +203,9 @@ impl Book {
         let n = self.rested as usize;
         let mut i = 0;
         while i < n {
-            let identifier = self.resting[i] as usize;
-            once = once & (marks[identifier] == 0);
-            marks[identifier] = 1;
+            let at = self.resting[i] as usize;
+            once = once & (marks[at] == 0);
+            marks[at] = 1;
             i += 1;
         }
         once

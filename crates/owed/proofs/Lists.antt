@@ -55,7 +55,8 @@ pub member-last : (x y : ℕ) (l : List ℕ) → member x (l ++ (y ∷ [])) ≡ 
 unfolding member
 member-last x y l = member-append x l (y ∷ []) ∙ ap (λ (b : Bool). member x l || b) (or-false (eqb y x))
 
-eqb-turn : (x y : ℕ) → eqb x y ≡ eqb y x
+-- a test of two numbers is the same either way round
+pub eqb-turn : (x y : ℕ) → eqb x y ≡ eqb y x
 eqb-turn x y = go (eqb y x) refl
   where
     go : (b : Bool) → eqb y x ≡ b → eqb x y ≡ b

@@ -23,7 +23,7 @@ sixteen : (c : tie.Start Inv-loop μ-loop) → length (c .args .t1 .resting) ≡
 sixteen c = let g = c .good .0 .1 .1 .1 .0 in search needs
 
 -- the identifier has its place among the marks
-seen : (c : tie.After-identifier Inv-loop μ-loop) → getD (c .before .before .before .before .before .args .t1 .resting) (c .before .before .loop .i) 0 < 128
+seen : (c : tie.After-at Inv-loop μ-loop) → getD (c .before .before .before .before .before .args .t1 .resting) (c .before .before .loop .i) 0 < 128
 seen c =
     let s = c .before .before .before .before .before in
     resting-at (s .args .t1 .resting) (s .args .t1 .rested) (c .before .before .loop .i) (s .pre .2) (omega arith)
@@ -37,11 +37,11 @@ cast-n c = omega arith
 loop-holds : tie.Need-loop-holds Inv-loop μ-loop
 loop-holds c = (search needs, (refl, refl))
 
-element-copy-out-identifier : tie.Need-element-copy-out-identifier Inv-loop μ-loop
-element-copy-out-identifier c = omega arith
+element-copy-out-at : tie.Need-element-copy-out-at Inv-loop μ-loop
+element-copy-out-at c = omega arith
 
-cast-identifier : tie.Need-cast-identifier Inv-loop μ-loop
-cast-identifier c = omega (arith, seen c)
+cast-at : tie.Need-cast-at Inv-loop μ-loop
+cast-at c = omega (arith, seen c)
 
 array-read-once : tie.Need-array-read-once Inv-loop μ-loop
 array-read-once c = seen c
@@ -89,8 +89,8 @@ no-twice-spec =
     open-seen-requires
     cast-n
     loop-holds
-    element-copy-out-identifier
-    cast-identifier
+    element-copy-out-at
+    cast-at
     array-read-once
     array-write-marks
     add-i

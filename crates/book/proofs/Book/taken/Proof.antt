@@ -1,4 +1,4 @@
-use Rattle.book.proofs.Facts.{somebody, open-somebody}
+use Rattle.book.proofs.Owner.{somebody, open-somebody}
 use Rattle.book.specs.Book.{openIn, restingOf}
 use Rattle.owed.proofs.Lists.{member-append}
 use Rattle.owed.specs.Owed.{member}

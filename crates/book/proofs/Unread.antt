@@ -1,0 +1,25 @@
+-- Nothing of a closed line's record is read, neither by BOOK's test nor where an identifier is looked for.
+-- Assumes nothing.
+use Prim.Native.Nat.{ℕ}
+use mathlib.Core.Path.{_≡_, ap}
+use mathlib.Core.Bool.{false}
+use mathlib.Core.List.{List, [], _∷_, _++_}
+use lib.Dec.{leb}
+use Rattle.ground.specs.Pick.{allHold}
+use Rattle.owed.specs.Owed.{member, noTwice}
+use Rattle.line.specs.declared.Line.{Line}
+use Rattle.book.specs.Book.{lineOf, withLine, restingOf, allSpan, bookFits, taken, whose}
+use Rattle.book.specs.declared.Book.{Book}
+use Rattle.book.proofs.Around.{open-closed, lines-closed, whose-closed}
+
+module _ (b : Book) (i : ℕ) (o : lineOf b i .opened ≡ false) (l : Line) (c : l .opened ≡ false) where
+  pub closed-unread : bookFits (withLine b i l) ≡ bookFits b
+  unfolding bookFits
+  closed-unread =
+      λ j. allHold (lines-closed l c (b .lines) i o j ∷ leb (b .rested) 16 ∷ allSpan (restingOf b) ∷ noTwice (open-closed l c (b .lines) i o j ++ restingOf b) ∷ [])
+
+  pub taken-unread : (identifier : ℕ) → taken (withLine b i l) identifier ≡ taken b identifier
+  taken-unread identifier = ap (λ (xs : List ℕ). member identifier (xs ++ restingOf b)) (open-closed l c (b .lines) i o)
+
+  pub whose-unread : (identifier : ℕ) → whose (withLine b i l) identifier ≡ whose b identifier
+  whose-unread identifier = whose-closed l c 0 (b .lines) i identifier o
