@@ -49,7 +49,8 @@ impl Book {
         requires { ⌜ i < 4 ⌝ }
         ensures { λ r. ⌜ r ≡ lineOf self i ⌝ }
     {
-        self.lines[i as usize]
+        let at = i as usize;
+        self.lines[at]
     }
 
     // The book with that line anew.

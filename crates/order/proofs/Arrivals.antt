@@ -1,13 +1,11 @@
 -- How a packet's verdict is put together: its head, its line, and what the line asks of it.
 -- Assumes nothing.
-use Prim.Native.Nat.{ℕ, suc, _+_, _<_}
+use Prim.Native.Nat.{ℕ, _<_}
 use mathlib.Core.Path.{_≡_, refl, sym, ap, _∙_}
-use mathlib.Core.Bool.{Bool, true, false, _&&_}
+use mathlib.Core.Bool.{true}
 use mathlib.Core.List.{List, [], _∷_}
 use native.Mathlib.Omega.{arith}
-use lib.Dec.{eqb}
 use lib.ListN.{length}
-use Rattle.ground.specs.Pick.{pick}
 use Rattle.ground.specs.Refusal.{Test, must, verdict, settle}
 use Rattle.ground.specs.declared.Refusal.{Refusal}
 use Rattle.ground.specs.declared.Refusal.the-variants.{NOLINE}
@@ -18,10 +16,10 @@ use Rattle.packet.specs.Read.{headAt, headTests, headRead}
 use Rattle.packet.specs.declared.Head.{Head}
 use Rattle.packet.specs.declared.HeadRead.{HeadRead}
 use Rattle.packet.specs.declared.HeadRead.the-variants as head
-use Rattle.line.specs.declared.Line.{Line}
 use Rattle.arriving.specs.Arrive.{arriveTests}
-use Rattle.book.specs.Book.{lineOf, whoseFrom}
+use Rattle.book.specs.Book.{lineOf}
 use Rattle.book.specs.declared.Book.{Book}
+use Rattle.book.proofs.Owner.{whose-at}
 use Rattle.book.specs.declared.Whose.{Whose}
 use Rattle.book.specs.declared.Whose.the-variants.{At, Nobody}
 use Rattle.order.specs.Order.{packetLine, isSomebody, lineAt, addressTests, arrivalTests}
@@ -32,20 +30,6 @@ use Rattle.order.specs.declared.MayArrive.the-variants as may
 pub told {ℓ} : {A : Type ℓ} (why : A → Verdict) (v : Verdict) {refuse : Refusal → A} {took a : A} → a ≡ settle v refuse took → ((r : Refusal) → why (refuse r) ≡ Refuse r) → why took ≡ Pass → v ≡ why a
 told why Pass e f g = sym (ap why e ∙ g)
 told why (Refuse r) e f g = sym (ap why e ∙ f r)
-
--- the line found is one of the lines
-pub whose-in : (k : ℕ) (ls : List Line) (x : ℕ) {i : ℕ} → whoseFrom k ls x ≡ At i → i < k + length ls
-unfolding whoseFrom
-whose-in k [] x {i} e = absurd (let z : _≡_ {A = ℕ} 0 1 = cc in omega arith)
-whose-in k (l ∷ ls) x {i} e = go (l .opened && eqb (l .identifier) x) (whose-in (suc k) ls x) e
-  where
-    at : Whose → ℕ
-    at (At j) = j
-    at Nobody = 0
-
-    go : (t : Bool) → (whoseFrom (suc k) ls x ≡ At i → i < suc k + length ls) → pick t (At k) (whoseFrom (suc k) ls x) ≡ At i → i < k + suc (length ls)
-    go true f p = let q : k ≡ i = ap at p in omega arith
-    go false f p = let q = f p in omega arith
 
 abbrev pub whyHead : HeadRead → Verdict
 whyHead (head.Says h) = Pass
@@ -124,7 +108,7 @@ module _ (b : Book) (s : List ℕ) where
           go Nobody t q = absurd (let z : _≡_ {A = ℕ} 0 1 = cc in omega arith)
 
       pub addressed-in : i < length (b .lines)
-      addressed-in = let h = whose-in 0 (b .lines) (headAt s .identifier) addressed-owner in omega arith
+      addressed-in = whose-at b (headAt s .identifier) i addressed-owner .0
 
       pub arrival-on : verdict (arrivalTests b s) ≡ verdict (arriveTests (lineOf b i) s)
       unfolding arrivalTests

@@ -1,0 +1,4 @@
+pub mod Dids
+pub mod Passing
+pub mod Refusing
+pub mod Slips
