@@ -1,5 +1,5 @@
 -- Document 01's 'Table to prove', row by row, as theorems about the definitions that the code is proved to meet.
--- Each holds by computation: the definition, run on the row's numbers, gives the row's answer. Row 9 waits for opening and closing.
+-- Each holds by computation: the definition, run on the row's numbers, gives the row's answer.
 -- Assumes nothing.
 use mathlib.Core.Path.{_≡_, refl, ap}
 use mathlib.Core.Bool.{true, false}
@@ -7,7 +7,7 @@ use mathlib.Core.List.{List, [], _∷_}
 use Prim.Native.Nat.{ℕ, _+_, _-_, _*_, _≤_}
 use native.Mathlib.Omega.{arith}
 use Rattle.ground.specs.Answer.{accepted, refused}
-use Rattle.ground.specs.declared.Refusal.the-variants.{RANGE, FULL}
+use Rattle.ground.specs.declared.Refusal.the-variants.{RANGE, FULL, TAKEN}
 use Rattle.ground.specs.Refusal.{verdict}
 use Rattle.ground.specs.declared.Verdict.the-variants.{Pass, Refuse}
 use Rattle.field.specs.Bits.{bitsAt}
@@ -22,8 +22,8 @@ use Rattle.connect.specs.declared.Connect.{Connect}
 use Rattle.slip.specs.Slip.{slipRead, slipAt, slipFits, formFits, slipOctets}
 use Rattle.slip.specs.Slip as slip
 use Rattle.channel.specs.Channel.{windowOf}
-use Rattle.channel.specs.Receiving.{arrivalOf}
-use Rattle.channel.specs.Sending.{takeTests, heardBase}
+use Rattle.channel.specs.Receiving.{arrivalOf, receivingFits}
+use Rattle.channel.specs.Sending.{takeTests, heardBase, sendingFits}
 use Rattle.channel.specs.declared.receiving.Receiving.{Receiving}
 use Rattle.channel.specs.declared.receiving.Arrival.the-variants.{Stored, Old}
 use Rattle.channel.specs.declared.sending.Sending.{Sending}
@@ -35,6 +35,19 @@ use Rattle.mode.specs.Recovery.{due, tickedModes, tickedAnswer, ticking}
 use Rattle.mode.specs.Acts.{ask, tick, Outcome, outcome, after}
 use Rattle.mode.proofs.Recovering.{recovery-begins, not-yet}
 use Rattle.places.specs.Places.{setOf}
+use lib.ListN.{replicate}
+use Rattle.ground.specs.Every.{every}
+use Rattle.channel.specs.Sizes as sizes
+use Rattle.mode.specs.Fit.{modesFit}
+use Rattle.owed.specs.Owed.{member, noTwice, allSpans, owedFits}
+use Rattle.line.specs.Fit.{lineFits}
+use Rattle.line.specs.declared.Settings.{Settings}
+use Rattle.book.specs.Book.{freshBook, openIn, linesFit, allSpan, bookFits}
+use Rattle.book.specs.Rest.{closedAt}
+use Rattle.book.specs.declared.Book.{Book}
+use Rattle.order.specs.Call as call
+use Rattle.order.specs.Order.{openTests, closeTests, tests, lineFor}
+use Rattle.gateway.specs.Did.{did, done, effect, slipOf}
 
 -- 1. Identifier 5, type 98, channel 1, number 0, base 0, payload 41
 abbrev packet-one : List ℕ
@@ -178,3 +191,22 @@ module _ (l : Modes) (time : ℕ) (t : l .last ≤ time) (none : l .tries ≡ 0)
 
   pub row-8-always-at-1001 : time - l .since ≡ 1001 → outcome l (tick time) .said ≡ accepted (1 ∷ [])
   row-8-always-at-1001 w = ap (λ (o : Outcome). o .said) (recovery-begins l time t none d (omega arith))
+
+-- 9. Identifier 9 closed, then 15 others closed: TAKEN; one more: free. Each is opened on line 0 of a fresh book and closed again
+abbrev named : ℕ → Settings
+named identifier = record { identifier = identifier; kind = 98; vbd = true; relay = true }
+
+unfoldable pub closedOnes : Book → List ℕ → Book
+closedOnes b [] = b
+closedOnes b (x ∷ xs) = closedOnes (did (call.closing 0) (did (call.opening 0 (named x) 0) b [] [] .book) [] (replicate 12 0) .book) xs
+
+abbrev others : List ℕ
+others = 10 ∷ 11 ∷ 12 ∷ 13 ∷ 14 ∷ 15 ∷ 16 ∷ 17 ∷ 18 ∷ 19 ∷ 20 ∷ 21 ∷ 22 ∷ 23 ∷ 24 ∷ []
+
+pub row-9-taken : did (call.opening 0 (named 9) 0) (closedOnes freshBook (9 ∷ others)) [] [] .answer ≡ refused TAKEN
+unfolding closedOnes did done effect tests lineFor openTests closeTests bookFits linesFit allSpan openIn lineFits closedAt member noTwice allSpans owedFits modesFit sendingFits receivingFits sizes.sizesFit every slipOf slipOctets
+row-9-taken = refl
+
+pub row-9-free : did (call.opening 0 (named 9) 0) (closedOnes freshBook (9 ∷ 25 ∷ others)) [] [] .answer ≡ accepted []
+unfolding closedOnes did done effect tests lineFor openTests closeTests bookFits linesFit allSpan openIn lineFits closedAt member noTwice allSpans owedFits modesFit sendingFits receivingFits sizes.sizesFit every slipOf slipOctets
+row-9-free = refl
