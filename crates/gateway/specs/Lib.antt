@@ -1,2 +1,3 @@
 pub mod Did
 pub mod Says
+pub mod Reached

@@ -13,7 +13,7 @@ ghost use Rattle.mode.specs.Says.{heardSays, askedSays, tickedSays};
 ghost use Rattle.book.specs.Book.{freshBook};
 ghost use Rattle.order.specs.Call as call;
 ghost use Rattle.gateway.specs.Did.{made, did, slipOf};
-ghost use Rattle.gateway.specs.Says.{openedSays, takenSays, arrivedSays, reportSays};
+ghost use Rattle.gateway.specs.Says.{openedSays, takenSays, arrivedSays, reportSays, Tries};
 use book::Book;
 use ground::Refusal;
 use ground::Verdict;
@@ -195,7 +195,7 @@ pub fn ask(book: Book, line: u8, mode: u8, time: u64) -> Asks
 // Tells a line the time. Answers whether an audio indication is due, and which try, or that recovery has ended the line.
 // Refuses BOOK, RANGE for the line, NOLINE, CLOCK.
 pub fn tick(book: Book, line: u8, time: u64) -> Ticks
-    ensures { λ r. ⌜ ((store out : List ℕ) → made (tickedSays (r .answer)) (r .book) store out ≡ did (call.mode line (act.tick time)) book store out) ⌝ }
+    ensures { λ r. ⌜ ((store out : List ℕ) → made (tickedSays (r .answer)) (r .book) store out ≡ did (call.mode line (act.tick time)) book store out) × Tries (r .answer) ⌝ }
 {
     let verdict = order::may_move(book, line);
     match verdict {

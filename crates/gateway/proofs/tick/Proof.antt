@@ -1,3 +1,7 @@
+use mathlib.Core.Path.{subst}
+use Rattle.mode.specs.declared.Ticking.{Ticking}
+use Rattle.gateway.specs.Says.{Tries}
+use Rattle.gateway.proofs.Answers.{tick-tries}
 use Rattle.gateway.proofs.Dids.{did-refused, moved-did}
 use Rattle.gateway.specs.Did.{made}
 use Rattle.order.proofs.Firsts.{line-passed}
@@ -39,17 +43,17 @@ with-line-requires c κs = let a = c .before .before .before .before .before .be
 
 returns : tie.Need-returns
 unfolding tests modeTests
-returns c = λ store out. let a = c .before .before .before .before .args in sym (did-refused (call.mode (a .line) (act.tick (a .time))) (a .book) store out (verdict-stop (fitBook (a .book) ∷ lineNumber (a .line) ∷ isOpen (lineOf (a .book) (a .line)) ∷ []) (actTests (lineOf (a .book) (a .line) .modes) (act.tick (a .time))) (sym (c .before .before .before .may-move .ensures) ∙ c .before .verdict .given .1)))
+returns c = (λ store out. let a = c .before .before .before .before .args in sym (did-refused (call.mode (a .line) (act.tick (a .time))) (a .book) store out (verdict-stop (fitBook (a .book) ∷ lineNumber (a .line) ∷ isOpen (lineOf (a .book) (a .line)) ∷ []) (actTests (lineOf (a .book) (a .line) .modes) (act.tick (a .time))) (sym (c .before .before .before .may-move .ensures) ∙ c .before .verdict .given .1))), tt)
 
 returns-2 : tie.Need-returns-2
 unfolding tests modeTests
 returns-2 c =
-    λ store out. let a = c .before .before .before .before .before .before .before .args in
+    let a = c .before .before .before .before .before .before .before .args in
     let l = c .before .before .before .line .ensures in
     let h = c .before .before .tick .ensures .0 ∙ ap (λ (k : Line). ticking (k .modes) (a .time)) l in
     let s = c .before .stepped .ensures ∙ (λ t. steppedTo (l t) (h t .modes) (h t .channels)) in
     let b = c .with-line .ensures ∙ ap (λ (k : Line). withLine (a .book) (a .line) k) s in
-    (λ t. made (tickedSays (h t .answer)) (b t) store out) ∙ moved-did (a .book) (a .line) (act.tick (a .time)) store out (sym (c .before .before .before .before .before .before .may-move .ensures) ∙ c .before .before .before .before .enum-told .given .1)
+    (λ store out. (λ t. made (tickedSays (h t .answer)) (b t) store out) ∙ moved-did (a .book) (a .line) (act.tick (a .time)) store out (sym (c .before .before .before .before .before .before .may-move .ensures) ∙ c .before .before .before .before .enum-told .given .1), subst (λ (t : Ticking). Tries (t .answer)) (sym h) (tick-tries (lineOf (a .book) (a .line) .modes) (a .time)))
 
 pub tick-spec : {M : Type 1} → statement M
 tick-spec =

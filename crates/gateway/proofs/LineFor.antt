@@ -1,0 +1,90 @@
+-- The line that an accepted call is for: one of the four, one that BOOK lets pass, and open unless the call opens it.
+-- Assumes nothing.
+use Prim.Native.Nat.{ℕ, _<_}
+use mathlib.Core.Path.{_≡_, refl, sym, ap}
+use mathlib.Core.Bool.{Bool, true, false}
+use mathlib.Core.List.{List}
+use native.Mathlib.Omega.{arith}
+use lib.ListN.{length}
+use Rattle.ground.specs.Refusal.{verdict, settle}
+use Rattle.ground.specs.declared.Verdict.{Verdict}
+use Rattle.ground.specs.declared.Verdict.the-variants.{Pass}
+use Rattle.ground.proofs.Picks.{clash}
+use Rattle.ground.proofs.Verdicts.{passed}
+use Rattle.packet.specs.Read.{headAt}
+use Rattle.relay.specs.Asked.{relayTests}
+use Rattle.relay.specs.Take.{takeCallTests}
+use Rattle.relay.specs.HandOut.{handCallTests}
+use Rattle.writing.specs.Write.{emptyTests}
+use Rattle.writing.specs.Send.{sendTests}
+use Rattle.book.specs.Book.{lineOf}
+use Rattle.book.specs.Shape.{BookShaped}
+use Rattle.book.specs.declared.Book.{Book}
+use Rattle.book.proofs.Facts.{book-ok}
+use Rattle.book.proofs.Owner.{whose-at}
+use Rattle.order.specs.Call.{Call}
+use Rattle.order.specs.Call as call
+use Rattle.order.specs.Order.{tests, lineFor, openTests, closeTests, modeTests, packetLine, lineAt, addressTests}
+use Rattle.order.specs.declared.MayArrive.{MayArrive}
+use Rattle.order.specs.declared.MayArrive.the-variants as may
+use Rattle.order.proofs.Firsts.{OnLine, line-passed, both-passed}
+use Rattle.order.proofs.Arrivals.{addressed-owner}
+use Rattle.gateway.proofs.Passing.{addressed}
+
+-- a packet finds its line, which is open, by its identifier
+pub pass-address : (b : Book) (s : List ℕ) → verdict (addressTests b s) ≡ Pass → lineOf b (lineAt (packetLine b s)) .opened ≡ true
+pass-address b s e =
+    let i = lineAt (packetLine b s) in
+    whose-at b (headAt s .identifier) i (addressed-owner b s {r = may.At i} (sym (ap (λ (v : Verdict). settle {A = MayArrive} v may.Refused (may.At i)) e)) refl) .1
+
+-- one of the four, and fits
+pub pass-on : (c : Call) (b : Book) (n room : ℕ) → verdict (tests c b n room) ≡ Pass → BookShaped b → OnLine b (lineFor c b)
+unfolding tests lineFor
+pass-on (call.opening i s time) b n room e k = line-passed b i (openTests b i s) e .0
+pass-on (call.closing i) b n room e k = line-passed b i (closeTests (lineOf b i) room) e .0
+pass-on (call.mode i a) b n room e k = line-passed b i (modeTests (lineOf b i) a) e .0
+pass-on (call.taking i channel message) b n room e k = both-passed b n i (takeCallTests (lineOf b i) channel (length message)) e .0
+pass-on (call.sending i channel rank) b n room e k = both-passed b n i (sendTests (lineOf b i) channel rank room) e .0
+pass-on (call.empty i channel) b n room e k = line-passed b i (emptyTests (lineOf b i) channel room) e .0
+pass-on (call.arrival s) b n room e k =
+    let a = addressed b n s e in
+    record { book = a .book; few = book-ok b (a .book) .few; number = omega (arith, a .number, k .lines); line = a .fits }
+pass-on (call.handOut i channel) b n room e k = both-passed b n i (handCallTests (lineOf b i) channel room) e .0
+pass-on (call.report i channel) b n room e k = line-passed b i (relayTests (lineOf b i) channel) e .0
+
+pub line-number : (c : Call) (b : Book) (store out : List ℕ) → verdict (tests c b (length store) (length out)) ≡ Pass → BookShaped b → lineFor c b < 4
+line-number c b store out e k = pass-on c b (length store) (length out) e k .number
+
+-- and it is open, unless the call opens it
+abbrev pub opens : Call → Bool
+opens (call.opening i s time) = true
+opens (call.closing i) = false
+opens (call.mode i a) = false
+opens (call.taking i channel message) = false
+opens (call.sending i channel rank) = false
+opens (call.empty i channel) = false
+opens (call.arrival s) = false
+opens (call.handOut i channel) = false
+opens (call.report i channel) = false
+
+pub pass-open : (c : Call) (b : Book) (n room : ℕ) → verdict (tests c b n room) ≡ Pass → opens c ≡ false → lineOf b (lineFor c b) .opened ≡ true
+unfolding tests lineFor closeTests modeTests relayTests takeCallTests sendTests emptyTests handCallTests
+pass-open (call.opening i s time) b n room e o = clash (sym o)
+pass-open (call.closing i) b n room e o = passed (closeTests (lineOf b i) room) (line-passed b i (closeTests (lineOf b i) room) e .1) .0
+pass-open (call.mode i a) b n room e o = passed (modeTests (lineOf b i) a) (line-passed b i (modeTests (lineOf b i) a) e .1) .0
+pass-open (call.taking i channel message) b n room e o =
+    let ts = takeCallTests (lineOf b i) channel (length message) in
+    passed ts (both-passed b n i ts e .2) .0
+pass-open (call.sending i channel rank) b n room e o =
+    let ts = sendTests (lineOf b i) channel rank room in
+    passed ts (both-passed b n i ts e .2) .0
+pass-open (call.empty i channel) b n room e o =
+    let ts = emptyTests (lineOf b i) channel room in
+    passed ts (line-passed b i ts e .1) .0
+pass-open (call.arrival s) b n room e o = addressed b n s e .opened
+pass-open (call.handOut i channel) b n room e o =
+    let ts = handCallTests (lineOf b i) channel room in
+    passed ts (both-passed b n i ts e .2) .0
+pass-open (call.report i channel) b n room e o =
+    let ts = relayTests (lineOf b i) channel in
+    passed ts (line-passed b i ts e .1) .0

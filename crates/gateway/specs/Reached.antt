@@ -1,0 +1,22 @@
+-- Calls one after another, from a book and a store on.
+-- Assumes nothing.
+use Prim.Native.Nat.{ℕ}
+use mathlib.Core.List.{List, [], _∷_}
+use Rattle.book.specs.declared.Book.{Book}
+use Rattle.order.specs.Call.{Call}
+use Rattle.gateway.specs.Did.{did}
+
+-- a call, with the output that is lent to it
+pub record Turn : Type 0 where
+  pub call : Call
+  pub out : List ℕ
+
+-- a book, and the store that is lent to the calls on it
+pub record State : Type 0 where
+  pub book : Book
+  pub store : List ℕ
+
+-- what the calls leave, each on what the one before it left
+unfoldable pub reach : Book → List ℕ → List Turn → State
+reach b store [] = record { book = b; store = store }
+reach b store (t ∷ ts) = let d = did (t .call) b store (t .out) in reach (d .book) (d .store) ts
