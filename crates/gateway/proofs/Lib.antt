@@ -2,11 +2,4 @@ pub mod Dids
 pub mod Passing
 pub mod Refusing
 pub mod Slips
-pub mod LineFor
-pub mod Keeps
-pub mod Others
-pub mod Own
-pub mod Identifiers
-pub mod Unread
 pub mod Answers
-pub mod Determined

@@ -1,3 +1,2 @@
 pub mod Did
 pub mod Says
-pub mod Reached

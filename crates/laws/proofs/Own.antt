@@ -23,9 +23,9 @@ use Rattle.book.proofs.Apart.{line-same, closed-same}
 use Rattle.order.specs.Call.{Call}
 use Rattle.order.specs.Call as call
 use Rattle.order.specs.Order.{tests, lineFor}
 use Rattle.gateway.specs.Did.{Did, Effect, did, done, effect}
 use Rattle.gateway.proofs.Dids.{did-done}
-use Rattle.gateway.proofs.LineFor.{line-number}
+use Rattle.laws.proofs.LineFor.{line-number}
 
 -- a call that puts an identifier to rest leaves a closed line
 rests-closed : (c : Call) (i : ℕ) (l : Line) (store out : List ℕ) → effect c i l store out .rests ≡ true → closedLine ≡ effect c i l store out .line

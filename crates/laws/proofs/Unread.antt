@@ -37,10 +37,10 @@ use Rattle.book.proofs.Unread.{closed-unread, taken-unread, whose-unread}
 use Rattle.order.specs.Call.{Call}
 use Rattle.order.specs.Call as call
 use Rattle.order.specs.Order.{tests, lineFor, fitBook, roomy, lineNumber, isOpen, openTests, closeTests, modeTests, packetLine, isSomebody, lineAt, addressTests, arrivalTests}
 use Rattle.gateway.specs.Did.{Did, Effect, made, did, done, effect}
 use Rattle.gateway.proofs.Dids.{did-done, did-refused}
-use Rattle.gateway.proofs.Own.{accepted-passes}
-use Rattle.gateway.proofs.LineFor.{opens, pass-address, pass-open}
+use Rattle.laws.proofs.Own.{accepted-passes}
+use Rattle.laws.proofs.LineFor.{opens, pass-address, pass-open}
 
 -- the books are one, once the record of line i is put aside
 abbrev pub SameBeside : ℕ → Book → Book → Type 0

@@ -12,9 +12,9 @@ use Rattle.book.specs.declared.Book.{Book}
 use Rattle.book.proofs.Facts.{book-ok}
 use Rattle.book.proofs.Fresh.{fresh-fits, fresh-shaped}
 use Rattle.book.proofs.Owner.{one-owner, never-resting}
 use Rattle.gateway.specs.Did.{did}
-use Rattle.gateway.specs.Reached.{Turn, reach}
-use Rattle.gateway.proofs.Keeps.{Passes, every-call-keeps}
+use Rattle.laws.specs.Reached.{Turn, reach}
+use Rattle.laws.proofs.Keeps.{Passes, every-call-keeps}
 
 -- "one identifier twice among open and resting": on two open lines, on an open line and at rest, or at rest twice
 pub record NoneTwice (b : Book) : Type 0 where
