@@ -1,0 +1,158 @@
+-- Calls on the line that are refused nothing: whatever else has happened, a held message can be written by each rank that the report counts, an
+-- empty packet can be written, what the peer wrote is let in, and message R is handed out where it is stored.
+-- Assumes nothing.
+use Prim.Native.Nat.{ℕ, _+_, _-_, _≤_, _<_}
+use mathlib.Core.Path.{_≡_, refl, ap, subst, _∙_}
+use mathlib.Core.Bool.{true}
+use mathlib.Core.List.{List, [], _∷_}
+use native.Mathlib.Nat.{add-zero}
+use native.Mathlib.Omega.{arith}
+use lib.Dec.{ltb, leb}
+use lib.ListN.{length, getD}
+use borrow.Author.Tests.{lt-ltb, le-leb, eq-eqb, leb-true}
+use Rattle.ground.specs.Refusal.{Test, verdict}
+use Rattle.ground.specs.declared.Verdict.the-variants.{Pass}
+use Rattle.ground.proofs.Picks.{both-true, pick-lt}
+use Rattle.ground.proofs.Verdicts.{passes, verdict-on}
+use Rattle.places.specs.Places.{maskOf, bitOf, setBelow, rankOf}
+use Rattle.places.specs.declared.Place.the-variants.{At}
+use Rattle.places.proofs.Ranks.{rank-found, rank-of}
+use Rattle.channel.specs.Channel.{windowOf, cap}
+use Rattle.channel.specs.Distance.{placeOf}
+use Rattle.channel.specs.Sizes.{sizeFits}
+use Rattle.channel.specs.Receiving.{nextSize}
+use Rattle.channel.specs.Sending.{heldCount, heldAt, heldOf}
+use Rattle.channel.specs.declared.receiving.Receiving.{Receiving}
+use Rattle.channel.specs.declared.sending.Held.{Held}
+use Rattle.channel.specs.declared.sending.Ranked.{Ranked}
+use Rattle.channel.specs.declared.sending.Ranked.the-variants.{Is}
+use Rattle.channel.proofs.Keeps.{receiving-sized}
+use Rattle.flow.specs.Flow.{Full}
+use Rattle.line.specs.Fit.{largest, lineFits}
+use Rattle.line.specs.Line.{sendingOf, receivingOf}
+use Rattle.line.specs.declared.Line.{Line}
+use Rattle.mode.specs.Given.{modem}
+use Rattle.store.specs.declared.Way.the-variants as way
+use Rattle.relay.specs.Asked.{reliable, relayTests}
+use Rattle.relay.specs.HandOut.{handCallTests}
+use Rattle.writing.specs.Write.{headerFor, emptyTests}
+use Rattle.writing.specs.Send.{ranked, heldIn, sendTests, sentLength}
+use Rattle.writing.proofs.Packets.{acks-few}
+use Rattle.writing.proofs.Sends.{send-may, may-passed, may-sendable, send-size}
+use Rattle.arriving.proofs.Arrivals.{narrow}
+use Rattle.book.proofs.Facts.{line-fits}
+use Rattle.order.specs.Call as call
+use Rattle.order.specs.Order.{tests, fitBook, roomy, lineNumber}
+use Rattle.promise.specs.Past.{Past}
+use Rattle.promise.specs.Run.{Gateway, lineAt}
+use Rattle.promise.specs.Ends.{roomsOf}
+use Rattle.promise.specs.Promise.{InRelay, sendsBy, receivesBy}
+use Rattle.promise.proofs.Ends.{End, Joined, turn, sent, got, sends-ok, gets-ok}
+use Rattle.promise.proofs.Promised.{full-bit, next-there, next-below}
+use Rattle.promise.proofs.Phases.{endOf, Open, Sound, is-open, end-now}
+use Rattle.promise.proofs.Own.{Passes}
+use Rattle.promise.proofs.Calls.{joined-open}
+
+-- the message whose place has the rank
+pub ranked-is : (l : Line) (channel rank : ℕ) {n : ℕ} → rankOf (maskOf (sendingOf l channel .unacked)) rank ≡ At n
+    → ranked l channel rank ≡ Is (heldIn (heldAt (windowOf channel) (sendingOf l channel) (At n)))
+unfolding heldOf
+ranked-is l channel rank e = ap (heldAt (windowOf channel) (sendingOf l channel)) e
+
+-- On a line in modem relay.
+module _ (l : Line) (opened : l .opened ≡ true) (inside : l .modes .local ≡ modem) where
+  pub relay-asked : (channel : ℕ) → reliable channel ≡ true → verdict (relayTests l channel) ≡ Pass
+  unfolding relayTests
+  relay-asked channel v = passes (relayTests l channel) (opened, (eq-eqb _ _ inside, (v, tt)))
+
+  -- a message that has a rank is written where the largest packet has room
+  module _ (fits : lineFits l ≡ true) (channel rank room : ℕ) (v : reliable channel ≡ true) (roomy : 144 ≤ room) where
+    rank-may : {n : ℕ} → rankOf (maskOf (sendingOf l channel .unacked)) rank ≡ At n → verdict (sendTests l channel rank room) ≡ Pass
+    rank-may {n} e =
+        let w = windowOf channel in
+        let s = sendingOf l channel in
+        let asked = relay-asked channel v in
+        let held : Held = heldIn (heldAt w s (At n)) in
+        let exact = send-may l channel rank (sentLength l held) asked (ranked-is l channel rank e) (self (sentLength l held)) in
+        let size = send-size l fits channel (sentLength l held) held (may-sendable l channel rank (sentLength l held) fits exact) in
+        may-passed l channel rank room (send-may l channel rank room asked (ranked-is l channel rank e) (omega (arith, acks-few l, size .1))) .0
+      where
+        self : (n : ℕ) → n ≤ n
+        self n = omega arith
+
+    pub send-may-by : rank < heldCount (sendingOf l channel) → verdict (sendTests l channel rank room) ≡ Pass
+    send-may-by q = let f = rank-found (maskOf (sendingOf l channel .unacked)) rank q in rank-may (f .1)
+
+  pub empty-may : (channel room : ℕ) → channel ≤ 2 → 12 ≤ room → verdict (emptyTests l channel room) ≡ Pass
+  unfolding emptyTests
+  empty-may channel room c r = passes (emptyTests l channel room) (opened, (eq-eqb _ _ inside, (le-leb channel 2 c, (le-leb (headerFor l) room (omega (arith, acks-few l)), tt))))
+
+-- a hand-out is not refused where message R is stored; room is the output's length
+module _ (c : ℕ) (v : reliable c ≡ true) (room : ℕ) (roomy : largest ≤ room) where
+  pub hand-may : {e f : End} → Joined e f → f .line .opened ≡ true → f .line .modes .local ≡ modem → Full (got f c .stored (got f c .R)) → verdict (handCallTests (f .line) c room) ≡ Pass
+  unfolding handCallTests relayTests
+  hand-may {e} {f} j opened inside full =
+      let r : Receiving = receivingOf (f .line) c in
+      let w = windowOf c in
+      let there : bitOf (maskOf (r .stored)) 0 ≡ true = next-there j c v full in
+      let k = gets-ok (j .yours .sides) c in
+      let below : r .next < cap = omega (arith, sends-ok (j .mine .sides) c .capped, next-below j c v full) in
+      let first : placeOf (r .first) 0 w ≡ r .first = pick-lt (λ (p : ℕ). p ≡ r .first) (r .first + 0) w (λ l. add-zero (r .first)) (λ l. absurd (omega (arith, k .placed))) in
+      let sized : sizeFits largest (getD (r .sizes) (placeOf (r .first) 0 w) 0) ≡ true = receiving-sized w largest r (j .yours .sides .receiving c) 0 (omega (arith, k .placed)) there in
+      let fits : sizeFits largest (nextSize r) ≡ true = rw first at sized in
+      let small : nextSize r ≤ largest = leb-true _ _ (both-true (ltb 0 (nextSize r)) (leb (nextSize r) largest) fits .1) in
+      passes (handCallTests (f .line) c room) (opened, (eq-eqb _ _ inside, (v, (lt-ltb _ _ below, (there, (le-leb (nextSize r) room (omega arith), tt))))))
+
+-- At a gateway.
+module _ {i identifier kind : ℕ} {g : Gateway} {p : Past} (s : Sound i identifier kind g p) (a : InRelay g i p) {f : End} (j : Joined (endOf g i p) f) (out : List ℕ) where
+  own : Open identifier kind (lineAt g i)
+  own = is-open (s .phase) (a .0)
+
+  numbered : lineNumber i .holds ≡ true
+  numbered = le-leb i 3 (omega (arith, j .mine .small))
+
+  on : (ts : List Test) → verdict ts ≡ Pass → verdict (fitBook (g .book) ∷ lineNumber i ∷ ts) ≡ Pass
+  on ts e = verdict-on (fitBook (g .book) ∷ lineNumber i ∷ []) ts (passes (fitBook (g .book) ∷ lineNumber i ∷ []) (s .fits, (numbered, tt))) ∙ e
+
+  lent : (ts : List Test) → verdict ts ≡ Pass → verdict (fitBook (g .book) ∷ roomy (length (g .store)) ∷ lineNumber i ∷ ts) ≡ Pass
+  lent ts e =
+      let before = fitBook (g .book) ∷ roomy (length (g .store)) ∷ lineNumber i ∷ [] in
+      verdict-on before ts (passes before (s .fits, (le-leb _ _ (s .long), (numbered, tt)))) ∙ e
+
+  module _ (channel : ℕ) (v : reliable channel ≡ true) where
+    pub report-passes : Passes g (call.report i channel) out
+    unfolding tests
+    report-passes = on (relayTests (lineAt g i) channel) (relay-asked (lineAt g i) (own .opened) (a .1) channel v)
+
+    pub send-passes : (rank : ℕ) → rank < heldCount (sendingOf (lineAt g i) channel) → 144 ≤ length out → Passes g (call.sending i channel rank) out
+    unfolding tests
+    send-passes rank q r =
+        lent (sendTests (lineAt g i) channel rank (length out)) (send-may-by (lineAt g i) (own .opened) (a .1) (line-fits (g .book) (s .fits) i) channel rank (length out) v r q)
+
+    -- each held message has a rank that the report counts
+    pub held-rank : (n : ℕ) → sendsBy g i p channel .h ≤ n → n < sendsBy g i p channel .S → Full (sendsBy g i p channel .held n)
+        → (rank : ℕ) × (rank < heldCount (sendingOf (lineAt g i) channel)) × (heldIn (ranked (lineAt g i) channel rank) .number ≡ n)
+    held-rank n low high full =
+        let k = sendingOf (lineAt g i) channel in
+        let now = end-now g i p (a .0) refl refl in
+        let m = maskOf (k .unacked) in
+        let d = n - k .base in
+        let base : sendsBy g i p channel .h ≡ k .base = ap (λ (e : End). sent e channel .h) now in
+        let bit : bitOf m d ≡ true = full-bit (windowOf channel) (roomsOf (g .store) i way.Sending channel) (k .sizes) m (k .first) d (subst (λ (e : End). Full (sent e channel .held n)) now full) in
+        let near : d < 32 = omega (arith, j .there channel v .high, narrow channel) in
+        let r = rank-of m d near bit in
+        (setBelow m d, r .1, ap (λ (x : Ranked). heldIn x .number) (ranked-is (lineAt g i) channel (setBelow m d) (r .0)) ∙ back (k .base) (omega arith))
+      where
+        back : {n : ℕ} (b : ℕ) → b ≤ n → b + (n - b) ≡ n
+        back b q = omega arith
+
+    pub hand-passes : Full (receivesBy g i p channel .stored (receivesBy g i p channel .R)) → largest ≤ length out → Passes g (call.handOut i channel) out
+    unfolding tests
+    hand-passes full r =
+        let shown : Full (got (record { line = lineAt g i; i = i; store = g .store; past = p }) channel .stored (got (record { line = lineAt g i; i = i; store = g .store; past = p }) channel .R))
+        = subst (λ (e : End). Full (got e channel .stored (got e channel .R))) (end-now g i p (a .0) refl refl) full in
+        lent (handCallTests (lineAt g i) channel (length out)) (hand-may channel v (length out) r (turn (joined-open s (a .0) j out)) (own .opened) (a .1) shown)
+
+  pub empty-passes : (channel : ℕ) → channel ≤ 2 → 12 ≤ length out → Passes g (call.empty i channel) out
+  unfolding tests
+  empty-passes channel c r = on (emptyTests (lineAt g i) channel (length out)) (empty-may (lineAt g i) (own .opened) (a .1) channel (length out) c r)

@@ -1,0 +1,113 @@
+-- THE PROMISE between two gateways, for every run of theirs: what was taken at the one is handed out at the other, in order and octet for octet,
+-- nothing that waits is lost, and all can be handed out.
+-- Assumes nothing.
+use Prim.Native.Nat.{ℕ, _≤_, _<_}
+use mathlib.Core.Path.{_≡_, ap, _∙_}
+use mathlib.Core.Bool.{true}
+use mathlib.Core.List.{List, [], _++_}
+use mathlib.Core.Logic.{_⊎_}
+use native.Mathlib.Omega.{arith}
+use lib.ListN.{length, getD}
+use lib.Seq.{length-take-le}
+use Rattle.channel.specs.Sending.{heldCount}
+use Rattle.flow.specs.Flow.{Full, waiting}
+use Rattle.line.specs.Fit.{largest}
+use Rattle.line.specs.Line.{sendingOf}
+use Rattle.relay.specs.Asked.{reliable}
+use Rattle.order.specs.Call as call
+use Rattle.order.specs.Order.{lineFor}
+use Rattle.gateway.specs.Did.{effect}
+use Rattle.laws.proofs.Own.{own-values}
+use Rattle.promise.specs.Past.{Packet, Past}
+use Rattle.promise.specs.Run.{Gateway, does, accepts, lineAt, rankedMark, Honest, Goes, stay, here, there, Run}
+use Rattle.promise.specs.Promise.{sendsBy, receivesBy, Carried, Promised, InRelay, reportBy, AllCame, HandsOut, Ample, AllOut, CanFinish}
+use Rattle.promise.proofs.Ends.{turn}
+use Rattle.promise.proofs.Promised as line
+use Rattle.promise.proofs.Own.{call-accepted}
+use Rattle.promise.proofs.Lift.{Pair, run-kept, arrival-tests}
+use Rattle.promise.proofs.Accepts.{report-passes, send-passes, held-rank, hand-passes, empty-passes}
+use Rattle.promise.proofs.Drains.{drains, hands-go}
+use Rattle.promise.proofs.Finish.{finishes}
+
+-- each way is the other seen from the other end
+turned-goes : {i j identifier kind : ℕ} {g g′ h h′ : Gateway} {p p′ q q′ : Past} → Goes i j identifier kind g p h q g′ p′ h′ q′ → Goes j i identifier kind h q g p h′ q′ g′ p′
+turned-goes stay = stay
+turned-goes (here w s) = there (turned-goes w) s
+turned-goes (there w s) = here (turned-goes w) s
+
+pub turned-run : {i j identifier kind : ℕ} {g h : Gateway} {p q : Past} → Run i j identifier kind g p h q → Run j i identifier kind h q g p
+turned-run r = record { first = r .second; second = r .first; lines = (r .lines .1, r .lines .0); long = (r .long .1, r .long .0); goes = turned-goes (r .goes) }
+
+module _ {i j identifier kind : ℕ} {g h : Gateway} {p q : Past} (r : Run i j identifier kind g p h q) where
+  abbrev k : Pair i j identifier kind g p h q
+  k = run-kept r
+
+  module _ (channel : ℕ) (v : reliable channel ≡ true) where
+    -- "the messages taken for sending are always those handed out, in order and octet for octet, followed by those still waiting"
+    pub in-order : p .taken channel ≡ q .handed channel ++ waiting (sendsBy g i p channel) (receivesBy h j q channel)
+    in-order = line.in-order (k .joined) channel v
+
+    -- "Each waiting message is held at one end or the other."
+    pub held-somewhere : (n : ℕ) → receivesBy h j q channel .R ≤ n → n < sendsBy g i p channel .S → Full (getD (p .taken channel) n [])
+        × ((sendsBy g i p channel .held n ≡ getD (p .taken channel) n []) ⊎ (receivesBy h j q channel .stored n ≡ getD (p .taken channel) n []))
+    held-somewhere = line.held-somewhere (k .joined) channel v
+
+    pub carried : Carried channel g i p h j q
+    carried =
+        let f = k .joined .there channel v in
+        record {
+          in-order = in-order;
+          counted = f .count;
+          next = ap length (f .out) ∙ length-take-le (receivesBy h j q channel .R) (p .taken channel) (omega (arith, f .count, f .mid));
+          held = held-somewhere;
+        }
+
+    -- "Once both are there and every message still unacknowledged is sent and arrives, in any order, all can be handed out."
+    pub all-out : InRelay h j q → AllCame channel g i p q → (outs : ℕ → List ℕ) → Ample outs → AllOut j channel p h q outs
+    all-out a came outs ample = drains channel v outs ample k a came
+
+    -- the hand-outs are steps of the run, whatever they are lent
+    pub hands-run : InRelay h j q → (outs : ℕ → List ℕ) → {h′ : Gateway} {q′ : Past} → HandsOut j channel outs h q h′ q′ → Run i j identifier kind g p h′ q′
+    hands-run a outs hs = record { first = r .first; second = r .second; lines = r .lines; long = r .long; goes = hands-go channel v outs k a hs (r .goes) }
+
+    -- message R is handed out where it is stored
+    pub hand-accepted : InRelay h j q → Full (receivesBy h j q channel .stored (receivesBy h j q channel .R)) → (out : List ℕ) → largest ≤ length out
+        → accepts (does h (call.handOut j channel) out) ≡ true
+    hand-accepted a full out room = call-accepted h (call.handOut j channel) out (hand-passes (k .yours) a (turn (k .joined)) out channel v full room)
+
+    -- so none is refused while any message waits, once all have come
+    pub none-refused : InRelay h j q → AllCame channel g i p q → receivesBy h j q channel .R < sendsBy g i p channel .S → (out : List ℕ) → largest ≤ length out
+        → accepts (does h (call.handOut j channel) out) ≡ true
+    none-refused a came l out room = hand-accepted a (line.all-have (k .joined) channel v came (receivesBy h j q channel .R) l (omega arith)) out room
+
+    -- what is unacknowledged can be sent: the report is given, each rank below it is written, and each held message has one
+    pub report-counts : InRelay g i p → reportBy g i channel ≡ heldCount (sendingOf (lineAt g i) channel)
+    unfolding lineFor effect
+    report-counts a =
+        ap (λ (vs : List ℕ). getD vs 0 0) (own-values (call.report i channel) (g .book) (g .store) [] (report-passes (k .mine) a (k .joined) [] channel v))
+
+    pub sends-accepted : InRelay g i p → (rank : ℕ) → rank < reportBy g i channel → (out : List ℕ) → 144 ≤ length out → accepts (does g (call.sending i channel rank) out) ≡ true
+    sends-accepted a rank l out room =
+        call-accepted g (call.sending i channel rank) out (send-passes (k .mine) a (k .joined) out channel v rank (omega (arith, report-counts a, l)) room)
+
+    pub each-has-rank : InRelay g i p → (n : ℕ) → sendsBy g i p channel .h ≤ n → n < sendsBy g i p channel .S → Full (sendsBy g i p channel .held n)
+        → (rank : ℕ) × (rank < reportBy g i channel) × (rankedMark g i channel rank .number ≡ n)
+    each-has-rank a n low high full =
+        let d = held-rank (k .mine) a (k .joined) [] channel v n low high full in
+        (d .0, omega (arith, d .1, report-counts a), d .2)
+
+    -- from every state the two can finish
+    pub can-finish : InRelay g i p → InRelay h j q → CanFinish i j identifier kind channel g p h q
+    can-finish a b = finishes k a b channel v
+
+  -- every packet that the premise speaks of is let in
+  pub arrival-accepted : InRelay g i p → (s : List ℕ) (packet : Packet) → Honest p q s packet → (out : List ℕ) → accepts (does g (call.arrival s) out) ≡ true
+  arrival-accepted a s packet honest out = call-accepted g (call.arrival s) out (arrival-tests (k .mine) (k .yours) (a .0) (k .joined) s packet (a .1) honest out)
+
+  -- and an empty packet is written where its header has room
+  pub empty-accepted : InRelay g i p → (channel : ℕ) → channel ≤ 2 → (out : List ℕ) → 12 ≤ length out → accepts (does g (call.empty i channel) out) ≡ true
+  empty-accepted a channel c out room = call-accepted g (call.empty i channel) out (empty-passes (k .mine) a (k .joined) out channel c room)
+
+-- "on each reliable channel, each way"
+pub promised : {i j identifier kind : ℕ} {g h : Gateway} {p q : Past} → Run i j identifier kind g p h q → Promised g i p h j q
+promised r = record { there = carried r; back = carried (turned-run r) }

@@ -1,0 +1,169 @@
+-- What holds at all times between the two ends of a line: each end by itself, what its packets say of it, and the flow of each channel each way.
+-- What a packet says is about its writer alone, and stays true as the writer goes on.
+-- Assumes nothing.
+use Prim.Native.Nat.{ℕ, _+_, _%_, _≤_, _<_}
+use mathlib.Core.Path.{_≡_, sym, _∙_, subst, transport}
+use mathlib.Core.Bool.{true, false}
+use mathlib.Core.List.{List, [], _∷_, map}
+use native.Mathlib.Omega.{arith}
+use lib.Dec.{lit≤, eqb}
+use lib.ListN.{length}
+use Rattle.ground.specs.Refusal.{verdict}
+use Rattle.ground.specs.declared.Verdict.the-variants.{Pass}
+use Rattle.ground.proofs.Picks.{pick-by}
+use Rattle.field.specs.Word.{wordOf}
+use Rattle.packet.specs.Acks.{ackList}
+use Rattle.packet.specs.Read.{headAt, acksAt, payloadOf, payloadFits, headTests, listTests}
+use Rattle.channel.specs.Channel.{modulus, windowOf}
+use Rattle.channel.specs.Sending.{SendingOk, sendingFits}
+use Rattle.channel.specs.Receiving.{ReceivingOk, receivingFits}
+use Rattle.channel.proofs.Keeps.{sending-ok, receiving-ok}
+use Rattle.flow.specs.Flow.{Message, Sends, Receives, Have, Flow, Data, Grows}
+use Rattle.owed.specs.Owed.{owedOf}
+use Rattle.line.specs.Fit.{largest, lineFits}
+use Rattle.line.specs.Line.{sendingOf, receivingOf}
+use Rattle.line.specs.Shape.{Shaped}
+use Rattle.line.specs.declared.Line.{Line}
+use Rattle.line.proofs.Keeps.{line-ok, sending-side, receiving-side}
+use Rattle.mode.specs.Given.{modem}
+use Rattle.relay.specs.Asked.{reliable}
+use Rattle.arriving.proofs.Arrivals.{narrow}
+use Rattle.promise.specs.Past.{Mark, Packet, Past}
+use Rattle.promise.specs.Run.{Each, bound}
+use Rattle.promise.specs.Ends.{sendsOf, receivesOf}
+use Rattle.promise.proofs.Lists.{each-map}
+
+-- one end of the line: its record, its number there, the store, and what has become of it
+pub record End : Type 0 where
+  pub line : Line
+  pub i : ℕ
+  pub store : List ℕ
+  pub past : Past
+
+abbrev pub mark : ℕ → ℕ → Mark
+mark channel number = record { channel = channel; number = number }
+
+-- a message as a packet names it: its channel and the 14 bits of its number
+abbrev pub markWord : Mark → ℕ
+markWord m = wordOf (m .channel) (m .number % modulus)
+
+-- the views of an end, by channel
+abbrev pub sent : End → ℕ → Sends
+sent e channel = sendsOf (e .store) (e .i) (e .line) channel
+
+abbrev pub got : End → ℕ → Receives
+got e channel = receivesOf (e .store) (e .i) (e .line) channel
+
+-- a message of a reliable channel that has come to an end; `views` are what it shows
+pub record Came (views : ℕ → Receives) (m : Mark) : Type 0 where
+  pub served : reliable (m .channel) ≡ true
+  pub have : Have (views (m .channel)) (m .number)
+
+-- the base that a packet names: none on channel 0, on another one that its writer has reached
+pub data Names (views : ℕ → Receives) (channel base : ℕ) : List Mark → Type 0 where
+  nothing : reliable channel ≡ false → Names views channel base []
+  reached : (b : ℕ) → reliable channel ≡ true → base ≡ b % modulus → b ≤ views channel .R → Names views channel base (mark channel b ∷ [])
+
+-- the message that a packet carries: none without payload, else one that its writer took
+pub data Carries (taken : ℕ → List Message) (channel number : ℕ) (payload : Message) : List Mark → Type 0 where
+  nothing : payload ≡ [] → Carries taken channel number payload []
+  message : (n : ℕ) → reliable channel ≡ true → number ≡ n % modulus → Data (taken channel) n payload → Carries taken channel number payload (mark channel n ∷ [])
+
+-- what a packet k says is true of the end that wrote it
+pub record Said (identifier kind : ℕ) (taken : ℕ → List Message) (views : ℕ → Receives) (k : Packet) : Type 0 where
+  -- its octets pass every test of an arrival, and are for the line
+  pub plain : verdict (headTests (k .octets)) ≡ Pass
+  pub listed : verdict (listTests (k .octets)) ≡ Pass
+  pub sized : payloadFits (k .octets) largest ≡ true
+  pub named : headAt (k .octets) .identifier ≡ identifier
+  pub typed : headAt (k .octets) .kind ≡ kind
+  -- they are the 14 bits of the full numbers, and those are true
+  pub words : ackList (acksAt (k .octets)) ≡ map markWord (k .acks)
+  pub acks : Each (Came views) (k .acks)
+  pub names : Names views (headAt (k .octets) .channel) (headAt (k .octets) .base) (k .names)
+  pub carries : Carries taken (headAt (k .octets) .channel) (headAt (k .octets) .number) (payloadOf (k .octets)) (k .carries)
+
+abbrev pub Says : End → Packet → Type 0
+Says e = Said (e .line .identifier) (e .line .kind) (e .past .taken) (got e)
+
+-- the sides fit, also where the line is closed
+pub record Sides (l : Line) : Type 0 where
+  pub sending : (channel : ℕ) → sendingFits (windowOf channel) largest (sendingOf l channel) ≡ true
+  pub receiving : (channel : ℕ) → receivingFits (windowOf channel) largest (receivingOf l channel) ≡ true
+
+-- an end by itself
+pub record Whole (e : End) : Type 0 where
+  pub fits : lineFits (e .line) ≡ true
+  pub shaped : Shaped (e .line)
+  pub sides : Sides (e .line)
+  pub small : e .i < 4
+  pub long : 42240 ≤ length (e .store)
+  pub owed : owedOf (e .line .owed) ≡ map markWord (e .past .owes)
+  pub owes : Each (Came (got e)) (e .past .owes)
+  pub came : Each (Came (got e)) (e .past .came)
+  pub said : Each (Says e) (e .past .wrote)
+
+-- what one end has sent and the other has got
+abbrev pub Flows : End → End → Type 0
+Flows e f = (c : ℕ) → reliable c ≡ true → Flow (windowOf c) (sent e c) (got f c) (e .past .taken c) (f .past .handed c)
+
+pub record Joined (e f : End) : Type 0 where
+  pub mine : Whole e
+  pub yours : Whole f
+  pub there : Flows e f
+  pub back : Flows f e
+
+pub turn : {e f : End} → Joined e f → Joined f e
+turn j = record { mine = j .yours; yours = j .mine; there = j .back; back = j .there }
+
+-- what the steps ask of the sides
+module _ {l : Line} (k : Sides l) (channel : ℕ) where
+  pub sends-ok : SendingOk (windowOf channel) (sendingOf l channel)
+  sends-ok = sending-ok (windowOf channel) largest (sendingOf l channel) (narrow channel) (k .sending channel)
+
+  pub gets-ok : ReceivingOk (windowOf channel) (receivingOf l channel)
+  gets-ok = receiving-ok (windowOf channel) largest (receivingOf l channel) (narrow channel) (k .receiving channel)
+
+-- a window and the bound together are within the numbers' span
+pub wide : (channel : ℕ) → windowOf channel + bound ≤ modulus
+wide channel = pick-by (λ (w : ℕ). w + bound ≤ modulus) (eqb channel 1) (λ _. lit≤ tt) (λ _. lit≤ tt)
+
+-- in modem relay BOOK has them fit
+pub relay-sides : (l : Line) → lineFits l ≡ true → l .opened ≡ true → l .modes .local ≡ modem → Sides l
+relay-sides l fits opened inside =
+    let k = line-ok l opened fits in record { sending = sending-side l k inside; receiving = receiving-side l k inside }
+
+-- What was said stays true as the end goes on.
+module _ {u v : ℕ → Receives} (g : (c : ℕ) → reliable c ≡ true → Grows (u c) (v c)) where
+  pub came-on : (m : Mark) → Came u m → Came v m
+  came-on m k = record { served = k .served; have = g (m .channel) (k .served) .have (m .number) (k .have) }
+
+  names-on : {channel base : ℕ} {ms : List Mark} → Names u channel base ms → Names v channel base ms
+  names-on (nothing e) = nothing e
+  names-on {channel} (reached b r e q) = reached b r e (omega (arith, g channel r .next))
+
+  module _ {ts us : ℕ → List Message} (more : (c n : ℕ) (x : Message) → Data (ts c) n x → Data (us c) n x) where
+    carries-on : {channel number : ℕ} {payload : Message} {ms : List Mark} → Carries ts channel number payload ms → Carries us channel number payload ms
+    carries-on (nothing e) = nothing e
+    carries-on {channel} {payload = payload} (message n r e d) = message n r e (more channel n payload d)
+
+    pub said-on : {i j t s : ℕ} → j ≡ i → s ≡ t → (k : Packet) → Said i t ts u k → Said j s us v k
+    said-on a b k s =
+        record {
+          plain = s .plain;
+          listed = s .listed;
+          sized = s .sized;
+          named = s .named ∙ sym a;
+          typed = s .typed ∙ sym b;
+          words = s .words;
+          acks = each-map came-on (s .acks);
+          names = names-on (s .names);
+          carries = carries-on (s .carries);
+        }
+
+pub grows-none : {u v : Receives} → v ≡ u → Grows u v
+grows-none {u} e = subst (Grows u) (sym e) (record { next = omega arith; have = λ n h. h })
+
+-- A flow seen through equal views.
+pub flow-as : {w : ℕ} {s t : Sends} {q r : Receives} {a b x y : List Message} → s ≡ t → q ≡ r → a ≡ b → x ≡ y → Flow w t r b y → Flow w s q a x
+flow-as {w} e f g h k = transport (λ i. Flow w (sym e i) (sym f i) (sym g i) (sym h i)) k

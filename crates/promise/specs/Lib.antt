@@ -1,0 +1,4 @@
+pub mod Past
+pub mod Run
+pub mod Ends
+pub mod Promise
