@@ -1,0 +1,120 @@
+//! `spoil`: sets one part of a book to a value, unchecked, so that BOOK's clauses can be tried.
+//!
+//! `None` means that the line is no call: an unknown part, or a value that cannot be said at all.
+
+use crate::gateway::{Gateway, LINES};
+use crate::line::Line;
+use crate::modes::Recovery;
+use crate::owed;
+use crate::resting;
+use crate::words::Words;
+
+/// A held or stored message is said as one of so many from the base, or from the next to hand out, on either channel.
+const SPAN: u64 = 32;
+/// The most octets of a message that can be said, right or wrong.
+const SAYABLE: usize = 255;
+/// The last number of 14 bits.
+const LAST_NUMBER: u64 = 16_383;
+
+pub fn spoil(gateway: &mut Gateway, words: &mut Words) -> Option<()> {
+    match words.word()? {
+        b"rested" => {
+            let rested = last(words, Words::octet)?;
+            gateway.resting.spoil_count(rested);
+        }
+        b"resting" => {
+            let index = words.up_to(resting::MOST as u64 - 1)?;
+            let identifier = last(words, Words::octet)?;
+            gateway.resting.spoil_entry(index as usize, identifier);
+        }
+        line => {
+            let index = Words::new(line).up_to(LINES as u64 - 1)?;
+            spoil_line(&mut gateway.lines[index as usize], words)?;
+        }
+    }
+    Some(())
+}
+
+/// A value that must be the line's last.
+fn last<'a, T>(
+    words: &mut Words<'a>,
+    value: impl FnOnce(&mut Words<'a>) -> Option<T>,
+) -> Option<T> {
+    let value = value(words)?;
+    words.end()?;
+    Some(value)
+}
+
+fn spoil_line(line: &mut Line, words: &mut Words) -> Option<()> {
+    let modes = &mut line.modes;
+    match words.word()? {
+        b"opened" => line.opened = last(words, Words::flag)?,
+        b"vbd" => modes.vbd = last(words, Words::flag)?,
+        b"relay" => modes.relay = last(words, Words::flag)?,
+        b"left" => modes.left = last(words, Words::flag)?,
+        b"id" => line.identifier = last(words, Words::octet)?,
+        b"type" => line.payload_type = last(words, Words::octet)?,
+        b"local" => modes.local = last(words, Words::mode_or_code)?,
+        b"remote" => modes.remote = last(words, Words::mode_or_code)?,
+        b"try" => modes.recovery = Recovery::from_number(last(words, Words::octet)?),
+        b"since" => modes.since = last(words, Words::time)?,
+        b"tried" => modes.tried = last(words, Words::time)?,
+        b"last" => modes.last = last(words, Words::time)?,
+        b"owed" => return spoil_owed(line, words),
+        b"owing" => line.owed.spoil_count(last(words, Words::octet)?),
+        part => return spoil_channel(line, part, words),
+    }
+    Some(())
+}
+
+fn spoil_owed(line: &mut Line, words: &mut Words) -> Option<()> {
+    let index = words.up_to(owed::MOST as u64 - 1)?;
+    let channel = words.up_to(3)?;
+    let number = last(words, |words| words.up_to(LAST_NUMBER))?;
+    let ack = (channel as u8, number as u16);
+    line.owed.spoil_entry(index as usize, ack);
+    Some(())
+}
+
+fn spoil_channel(line: &mut Line, part: &[u8], words: &mut Words) -> Option<()> {
+    let channel = words.channel()?;
+    let number = words.full_number()?;
+    let sides = line.sides_mut(channel);
+    let (sending, receiving) = (&mut sides.sending, &mut sides.receiving);
+    let held_can_be_said = (sending.base..sending.base + SPAN).contains(&number);
+    let stored_can_be_said = (receiving.next..receiving.next + SPAN).contains(&number);
+    match part {
+        b"held" if held_can_be_said => {
+            let message = last(words, |words| words.octets(SAYABLE))?;
+            sending.hold(number, &message);
+        }
+        b"stored" if stored_can_be_said => {
+            let message = last(words, |words| words.octets(SAYABLE))?;
+            receiving.store(number, &message);
+        }
+        b"dropped" if held_can_be_said => {
+            words.end()?;
+            sending.held.remove(&number);
+        }
+        b"missing" if stored_can_be_said => {
+            words.end()?;
+            receiving.stored.remove(&number);
+        }
+        b"taken" => {
+            words.end()?;
+            sending.taken = number;
+        }
+        b"base" => {
+            words.end()?;
+            sending.base = number;
+            sending.held.clear();
+        }
+        b"next" => {
+            words.end()?;
+            receiving.next = number;
+            receiving.stored.clear();
+        }
+        _ => return None,
+    }
+    Some(())
+}
