@@ -10,7 +10,8 @@ use native.Mathlib.Omega.{arith}
 use lib.Dec.{ltb, leb}
 use lib.ListN.{length, getD}
 use borrow.Author.Tests.{lt-ltb, le-leb, eq-eqb, leb-true}
-use Rattle.ground.specs.Refusal.{Test, verdict}
+use Rattle.ground.specs.Refusal.{Test, must, verdict}
+use Rattle.ground.specs.declared.Refusal.the-variants.{SIZE}
 use Rattle.ground.specs.declared.Verdict.the-variants.{Pass}
 use Rattle.ground.proofs.Picks.{both-true, pick-lt}
 use Rattle.ground.proofs.Verdicts.{passes, verdict-on}
@@ -21,19 +22,20 @@ use Rattle.channel.specs.Channel.{windowOf, cap}
 use Rattle.channel.specs.Distance.{placeOf}
 use Rattle.channel.specs.Sizes.{sizeFits}
 use Rattle.channel.specs.Receiving.{nextSize}
-use Rattle.channel.specs.Sending.{heldCount, heldAt, heldOf}
+use Rattle.channel.specs.Sending.{takeTests, heldCount, heldAt, heldOf}
 use Rattle.channel.specs.declared.receiving.Receiving.{Receiving}
 use Rattle.channel.specs.declared.sending.Held.{Held}
 use Rattle.channel.specs.declared.sending.Ranked.{Ranked}
 use Rattle.channel.specs.declared.sending.Ranked.the-variants.{Is}
 use Rattle.channel.proofs.Keeps.{receiving-sized}
-use Rattle.flow.specs.Flow.{Full}
+use Rattle.flow.specs.Flow.{Message, Full}
 use Rattle.line.specs.Fit.{largest, lineFits}
 use Rattle.line.specs.Line.{sendingOf, receivingOf}
 use Rattle.line.specs.declared.Line.{Line}
 use Rattle.mode.specs.Given.{modem}
 use Rattle.store.specs.declared.Way.the-variants as way
 use Rattle.relay.specs.Asked.{reliable, relayTests}
+use Rattle.relay.specs.Take.{takeCallTests}
 use Rattle.relay.specs.HandOut.{handCallTests}
 use Rattle.writing.specs.Write.{headerFor, emptyTests}
 use Rattle.writing.specs.Send.{ranked, heldIn, sendTests, sentLength}
@@ -123,6 +125,17 @@ module _ {i identifier kind : ℕ} {g : Gateway} {p : Past} (s : Sound i identif
     pub report-passes : Passes g (call.report i channel) out
     unfolding tests
     report-passes = on (relayTests (lineAt g i) channel) (relay-asked (lineAt g i) (own .opened) (a .1) channel v)
+
+    -- a message is taken unless it is FULL or SPENT
+    pub take-passes : (m : Message) → 0 < length m → length m ≤ largest → sendingOf (lineAt g i) channel .taken < cap
+        → sendingOf (lineAt g i) channel .taken - sendingOf (lineAt g i) channel .base < windowOf channel → Passes g (call.taking i channel m) out
+    unfolding tests takeCallTests
+    take-passes m some small under near =
+        let l = lineAt g i in
+        let sized : sizeFits largest (length m) ≡ true = rw (lt-ltb 0 (length m) some, le-leb (length m) largest small) in
+        let rest = must (sizeFits largest (length m)) SIZE ∷ takeTests (windowOf channel) (sendingOf l channel) in
+        lent (takeCallTests l channel (length m))
+        (verdict-on (relayTests l channel) rest (relay-asked l (own .opened) (a .1) channel v) ∙ passes rest (sized, (lt-ltb _ _ under, (lt-ltb _ _ near, tt))))
 
     pub send-passes : (rank : ℕ) → rank < heldCount (sendingOf (lineAt g i) channel) → 144 ≤ length out → Passes g (call.sending i channel rank) out
     unfolding tests

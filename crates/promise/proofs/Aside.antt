@@ -106,7 +106,7 @@ stepped-open l m Stay o = record { opened = o .opened; named = o .named; typed =
 stepped-open l m Fresh o = record { opened = o .opened; named = o .named; typed = o .typed }
 stepped-open l m Emptied o = record { opened = o .opened; named = o .named; typed = o .typed }
 
-stepped-modes : (l : Line) (m : Modes) (k : Channels) → steppedTo l m k .modes ≡ m
+pub stepped-modes : (l : Line) (m : Modes) (k : Channels) → steppedTo l m k .modes ≡ m
 unfolding steppedTo
 stepped-modes l m Stay = refl
 stepped-modes l m Fresh = refl
@@ -134,8 +134,8 @@ module _ {i identifier kind : ℕ} {g : Gateway} {p : Past} (s : Sound i identif
       sym (moved-did (g .book) i a (g .store) out
       (passes (fitBook (g .book) ∷ lineNumber i ∷ isOpen l ∷ []) (s .fits, (le-leb i 3 (omega (arith, j .mine .small)), (is-open (s .phase) opened .opened, tt)))))
 
-  line : lineAt h i ≡ then
-  line = ap (λ (d : Did). lineOf (d .book) i) its ∙ line-same (g .book) (s .shaped) i (j .mine .small) then
+  pub mode-line : lineAt h i ≡ then
+  mode-line = ap (λ (d : Did). lineOf (d .book) i) its ∙ line-same (g .book) (s .shaped) i (j .mine .small) then
 
   store : h .store ≡ g .store
   store = ap (λ (d : Did). d .store) its
@@ -143,13 +143,13 @@ module _ {i identifier kind : ℕ} {g : Gateway} {p : Past} (s : Sound i identif
   fits : lineFits (lineAt h i) ≡ true
   fits = line-fits (h .book) (every-call-keeps c (g .book) (g .store) out (s .fits) (s .shaped) .0) i
 
-  settings : Open identifier kind (lineAt h i)
-  settings = subst (Open identifier kind) (sym line) (stepped-open l next (outcome (l .modes) a .channels) (is-open (s .phase) opened))
+  pub mode-open : Open identifier kind (lineAt h i)
+  mode-open = subst (Open identifier kind) (sym mode-line) (stepped-open l next (outcome (l .modes) a .channels) (is-open (s .phase) opened))
 
   -- in modem relay before and after: the channels are left alone
   alone : Relays g i → Relays h i → outcome (l .modes) a .channels ≡ Stay
   alone r t =
-      let inside : next .local ≡ modem = ap (λ (m : Modes). m .local) (sym (ap (λ (x : Line). x .modes) line ∙ stepped-modes l next (outcome (l .modes) a .channels))) ∙ t in
+      let inside : next .local ≡ modem = ap (λ (m : Modes). m .local) (sym (ap (λ (x : Line). x .modes) mode-line ∙ stepped-modes l next (outcome (l .modes) a .channels))) ∙ t in
       by-local (l .modes) a
       ∙ channels-by (λ (k : Channels). k ≡ Stay) (l .modes .local) (next .local) (λ n _. absurd (n r)) (λ _ n. absurd (n inside)) (λ _ _. refl) (λ n _. absurd (n r))
 
@@ -159,12 +159,12 @@ module _ {i identifier kind : ℕ} {g : Gateway} {p : Past} (s : Sound i identif
       go : {p : Past} → Phase i identifier kind g p → p .opened ≡ true → Joined (endOf g i p) f → Left i identifier kind f h p
       go closed e j = clash e
       go (unused o u) e j =
-          let v : Unused (lineAt h i) = subst Unused (sym line) (stepped-unused l next (outcome (l .modes) a .channels) u) in
-          (unused settings v, unused-joined j (lineAt h i) (h .store) true u v fits (long-after s c out) refl)
+          let v : Unused (lineAt h i) = subst Unused (sym mode-line) (stepped-unused l next (outcome (l .modes) a .channels) u) in
+          (unused mode-open v, unused-joined j (lineAt h i) (h .store) true u v fits (long-after s c out) refl)
       go {p} (relaying o t r) e j =
-          let same : lineAt h i ≡ steppedTo l next Stay = line ∙ ap (steppedTo l next) (alone r (stay r)) in
+          let same : lineAt h i ≡ steppedTo l next Stay = mode-line ∙ ap (steppedTo l next) (alone r (stay r)) in
           let k : Joined (record { line = l; i = i; store = g .store; past = p }) f = subst (λ (x : End). Joined x f) (end-now g i p e refl refl) j in (
-            relaying settings e (stay r),
+            relaying mode-open e (stay r),
             subst (λ (x : End). Joined x f) (sym (end-now h i p e same refl))
                 (moded-joined k next (h .store) (subst (λ (x : Line). lineFits x ≡ true) same fits) (long-after s c out) (rooms-same i store)),
           )

@@ -1,10 +1,10 @@
 -- THE PROMISE between two gateways, for every run of theirs: what was taken at the one is handed out at the other, in order and octet for octet,
 -- nothing that waits is lost, and all can be handed out.
 -- Assumes nothing.
-use Prim.Native.Nat.{ℕ, _≤_, _<_}
-use mathlib.Core.Path.{_≡_, ap, _∙_}
+use Prim.Native.Nat.{ℕ, zero, suc, _≤_, _<_}
+use mathlib.Core.Path.{_≡_, refl, sym, ap, subst, _∙_}
 use mathlib.Core.Bool.{true}
-use mathlib.Core.List.{List, [], _++_}
+use mathlib.Core.List.{List, [], _++_, List·Memᴰ}
 use mathlib.Core.Logic.{_⊎_}
 use native.Mathlib.Omega.{arith}
 use lib.ListN.{length, getD}
@@ -14,19 +14,22 @@ use Rattle.flow.specs.Flow.{Full, waiting}
 use Rattle.line.specs.Fit.{largest}
 use Rattle.line.specs.Line.{sendingOf}
 use Rattle.relay.specs.Asked.{reliable}
+use Rattle.relay.proofs.Lines.{channel-span}
+use Rattle.order.specs.Call.{Call}
 use Rattle.order.specs.Call as call
 use Rattle.order.specs.Order.{lineFor}
 use Rattle.gateway.specs.Did.{effect}
 use Rattle.laws.proofs.Own.{own-values}
 use Rattle.promise.specs.Past.{Packet, Past}
-use Rattle.promise.specs.Run.{Gateway, does, accepts, lineAt, rankedMark, Honest, Goes, stay, here, there, Run}
-use Rattle.promise.specs.Promise.{sendsBy, receivesBy, Carried, Promised, InRelay, reportBy, AllCame, HandsOut, Ample, AllOut, CanFinish}
+use Rattle.promise.specs.Run.{Gateway, does, after, accepts, lineAt, Relays, rankedMark, Honest, Provided, calls, Goes, stay, here, there, Run}
+use Rattle.promise.specs.Promise.{sendsBy, receivesBy, Carried, Promised, InRelay, reportBy, AllCame, HandsOut, Ample, AllOut, BothOut, CanFinish}
 use Rattle.promise.proofs.Ends.{turn}
 use Rattle.promise.proofs.Promised as line
 use Rattle.promise.proofs.Own.{call-accepted}
-use Rattle.promise.proofs.Lift.{Pair, run-kept, arrival-tests}
+use Rattle.promise.proofs.Covers.{call-adds}
+use Rattle.promise.proofs.Lift.{Pair, run-kept, run-on, arrival-tests}
 use Rattle.promise.proofs.Accepts.{report-passes, send-passes, held-rank, hand-passes, empty-passes}
-use Rattle.promise.proofs.Drains.{drains, hands-go}
+use Rattle.promise.proofs.Drains.{drains, hands-go, hands-keep}
 use Rattle.promise.proofs.Finish.{finishes}
 
 -- each way is the other seen from the other end
@@ -68,7 +71,7 @@ module _ {i j identifier kind : ℕ} {g h : Gateway} {p q : Past} (r : Run i j i
 
     -- the hand-outs are steps of the run, whatever they are lent
     pub hands-run : InRelay h j q → (outs : ℕ → List ℕ) → {h′ : Gateway} {q′ : Past} → HandsOut j channel outs h q h′ q′ → Run i j identifier kind g p h′ q′
-    hands-run a outs hs = record { first = r .first; second = r .second; lines = r .lines; long = r .long; goes = hands-go channel v outs k a hs (r .goes) }
+    hands-run a outs hs = run-on r (hands-go channel v outs k a hs stay)
 
     -- message R is handed out where it is stored
     pub hand-accepted : InRelay h j q → Full (receivesBy h j q channel .stored (receivesBy h j q channel .R)) → (out : List ℕ) → largest ≤ length out
@@ -100,6 +103,13 @@ module _ {i j identifier kind : ℕ} {g h : Gateway} {p q : Past} (r : Run i j i
     pub can-finish : InRelay g i p → InRelay h j q → CanFinish i j identifier kind channel g p h q
     can-finish a b = finishes k a b channel v
 
+  -- no call is left out of a run: at the open line whatever is called leads on, if it keeps the line open and in modem relay and no packet breaks the proviso
+  pub every-call : p .opened ≡ true → (c : Call) (out : List ℕ) → lineAt (after g c out) i .opened ≡ true → (Relays g i → Relays (after g c out) i) → Provided i g p q c
+      → (p′ : Past) × Run i j identifier kind (after g c out) p′ h q
+  every-call o c out still stays ok =
+      let d = call-adds (k .mine) o q out c still ok in
+      (d .0, run-on r (here stay (calls o c out still stays (d .1))))
+
   -- every packet that the premise speaks of is let in
   pub arrival-accepted : InRelay g i p → (s : List ℕ) (packet : Packet) → Honest p q s packet → (out : List ℕ) → accepts (does g (call.arrival s) out) ≡ true
   arrival-accepted a s packet honest out = call-accepted g (call.arrival s) out (arrival-tests (k .mine) (k .yours) (a .0) (k .joined) s packet (a .1) honest out)
@@ -107,6 +117,31 @@ module _ {i j identifier kind : ℕ} {g h : Gateway} {p q : Past} (r : Run i j i
   -- and an empty packet is written where its header has room
   pub empty-accepted : InRelay g i p → (channel : ℕ) → channel ≤ 2 → (out : List ℕ) → 12 ≤ length out → accepts (does g (call.empty i channel) out) ≡ true
   empty-accepted a channel c out room = call-accepted g (call.empty i channel) out (empty-passes (k .mine) a (k .joined) out channel c room)
+
+-- "all can be handed out": on both channels
+pub both-out : {i j identifier kind : ℕ} {g h : Gateway} {p q : Past} → Run i j identifier kind g p h q → InRelay h j q → AllCame 1 g i p q → AllCame 2 g i p q
+    → (outs : ℕ → List ℕ) → Ample outs → BothOut i j identifier kind g p
+both-out {g = g} {p = p} r a one two outs ample =
+    let d = all-out r 1 refl a one outs ample in
+    let kept = hands-keep 1 refl outs (run-kept r) a (d .hands) in
+    let r′ = hands-run r 1 refl a outs (d .hands) in
+    let e = all-out r′ 2 refl (kept .0) (λ n low high full. subst (List·Memᴰ (record { channel = 2; number = n })) (sym (kept .1)) (two n low high full)) outs ample in
+    let after = hands-keep 2 refl outs (run-kept r′) (kept .0) (e .hands) in
+    record {
+      gateway = e .gateway;
+      past = e .past;
+      run = hands-run r′ 2 refl (kept .0) outs (e .hands);
+      each = λ n v. served (λ c. e .past .handed c ≡ p .taken c) (after .2 1 (λ q. absurd (omega arith)) ∙ d .all) (e .all) n v;
+    }
+  where
+    served : (P : ℕ → Type 0) → P 1 → P 2 → (n : ℕ) → reliable n ≡ true → P n
+    served P x y n v = let b = channel-span n v in go n (b .0) (b .1)
+      where
+        go : (n : ℕ) → 1 ≤ n → n ≤ 2 → P n
+        go zero l u = absurd (omega arith)
+        go (suc zero) l u = x
+        go (suc (suc zero)) l u = y
+        go (suc (suc (suc n))) l u = absurd (omega arith)
 
 -- "on each reliable channel, each way"
 pub promised : {i j identifier kind : ℕ} {g h : Gateway} {p q : Past} → Run i j identifier kind g p h q → Promised g i p h j q

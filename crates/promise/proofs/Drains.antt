@@ -5,6 +5,7 @@ use Prim.Native.Nat.{ℕ, zero, suc, _+_, _-_, _<_}
 use mathlib.Core.Path.{_≡_, refl, sym, ap, transport, _∙_}
 use mathlib.Core.Bool.{true}
 use mathlib.Core.List.{List}
+use mathlib.Core.Logic.{_≢_}
 use native.Mathlib.Omega.{arith}
 use lib.ListN.{length}
 use lib.Seq.{take-all}
@@ -19,6 +20,7 @@ use Rattle.promise.specs.Past.{Past, handedPast}
 use Rattle.promise.specs.Run.{Gateway, does, after, given, Adds, handed, Step, calls, Goes, there}
 use Rattle.promise.specs.Promise.{sendsBy, receivesBy, InRelay, AllCame, outAt, HandsOut, done, next, Ample, AllOut}
 use Rattle.promise.proofs.Ends.{End, Joined, turn, got}
+use Rattle.promise.proofs.Sent.{more-other}
 use Rattle.promise.proofs.Got.{hands}
 use Rattle.promise.proofs.Promised.{all-have}
 use Rattle.promise.proofs.Phases.{endOf, Sound, is-open, end-now}
@@ -73,6 +75,16 @@ module _ {i j identifier kind : ℕ} (c : ℕ) (v : reliable c ≡ true) (outs :
   hands-go {h = h} k a (next e hs) w =
       let pass = call-passes h (call.handOut j c) (outAt outs h j c) e in
       hands-go (hand-pair k a pass) (hand-in k a pass) hs (there w (hand-step k a pass))
+
+  -- they leave the line in modem relay, what has come as it was, and what was handed out of the other channel
+  pub hands-keep : {g h h′ : Gateway} {p q q′ : Past} → Pair i j identifier kind g p h q → InRelay h j q → HandsOut j c outs h q h′ q′
+      → InRelay h′ j q′ × (q′ .came ≡ q .came) × ((n : ℕ) → n ≢ c → q′ .handed n ≡ q .handed n)
+  hands-keep k a done = (a, refl, λ n d. refl)
+  hands-keep {h = h} {q = q} k a (next e hs) =
+      let out = outAt outs h j c in
+      let pass = call-passes h (call.handOut j c) out e in
+      let rest = hands-keep (hand-pair k a pass) (hand-in k a pass) hs in
+      (rest .0, rest .1, λ n d. rest .2 n d ∙ more-other (q .handed) c (given (does h (call.handOut j c) out)) n d)
 
   module _ (ample : Ample outs) where
     drained : (m : ℕ) {g h : Gateway} {p q : Past} → Pair i j identifier kind g p h q → InRelay h j q → receivesBy h j q c .R + m ≡ sendsBy g i p c .S

@@ -14,8 +14,10 @@ pub mod Phases
 pub mod Own
 pub mod Calls
 pub mod Aside
+pub mod Covers
 pub mod Lift
 pub mod Accepts
 pub mod Drains
 pub mod Finish
+pub mod Meets
 pub mod Demand3

@@ -14,7 +14,6 @@ use Rattle.ground.specs.declared.Verdict.the-variants.{Pass}
 use Rattle.ground.proofs.Verdicts.{passes, verdict-on}
 use Rattle.packet.specs.Read.{headAt, headTests}
 use Rattle.line.specs.Line.{closedLine}
-use Rattle.line.specs.declared.Line.{Line}
 use Rattle.line.proofs.Keeps.{closed-fits}
 use Rattle.arriving.specs.Arrive.{Relaying, arriveTests, arrivedLine, arrivedStore}
 use Rattle.arriving.proofs.Stays.{arrived-stays}
@@ -135,12 +134,25 @@ goes-kept k (there w s) = turned (step-kept (turned (goes-kept k w)) s)
 fresh-sound : (i identifier kind : ℕ) (store : List ℕ) → 42240 ≤ length store → Sound i identifier kind (freshWith store) nothingYet
 fresh-sound i identifier kind store long = record { fits = fresh-passes .0; shaped = fresh-passes .1; long = long; phase = closed }
 
+pub fresh-pair : (i j identifier kind : ℕ) (first second : List ℕ) → (i < 4) × (j < 4) → (42240 ≤ length first) × (42240 ≤ length second)
+    → Pair i j identifier kind (freshWith first) nothingYet (freshWith second) nothingYet
+fresh-pair i j identifier kind first second lines long =
+    record {
+      mine = fresh-sound i identifier kind first (long .0);
+      yours = fresh-sound j identifier kind second (long .1);
+      joined = fresh-joined closedLine closedLine i j first second false false closed-unused closed-unused (closed-fits closedLine refl) (closed-fits closedLine refl) (lines .0) (lines .1) (long .0) (long .1);
+    }
+
 pub run-kept : {i j identifier kind : ℕ} {g h : Gateway} {p q : Past} → Run i j identifier kind g p h q → Pair i j identifier kind g p h q
-run-kept {i} {j} {identifier} {kind} r =
-    goes-kept
-    (record {
-      mine = fresh-sound i identifier kind (r .first) (r .long .0);
-      yours = fresh-sound j identifier kind (r .second) (r .long .1);
-      joined = fresh-joined closedLine closedLine i j (r .first) (r .second) false false closed-unused closed-unused (closed-fits closedLine refl) (closed-fits closedLine refl) (r .lines .0) (r .lines .1) (r .long .0) (r .long .1);
-    })
-    (r .goes)
+run-kept {i} {j} {identifier} {kind} r = goes-kept (fresh-pair i j identifier kind (r .first) (r .second) (r .lines) (r .long)) (r .goes)
+
+-- steps after steps
+goes-on : {i j identifier kind : ℕ} {g g′ g″ h h′ h″ : Gateway} {p p′ p″ q q′ q″ : Past} → Goes i j identifier kind g p h q g′ p′ h′ q′ → Goes i j identifier kind g′ p′ h′ q′ g″ p″ h″ q″
+    → Goes i j identifier kind g p h q g″ p″ h″ q″
+goes-on a stay = a
+goes-on a (here w s) = here (goes-on a w) s
+goes-on a (there w s) = there (goes-on a w) s
+
+pub run-on : {i j identifier kind : ℕ} {g g′ h h′ : Gateway} {p p′ q q′ : Past} → Run i j identifier kind g p h q → Goes i j identifier kind g p h q g′ p′ h′ q′
+    → Run i j identifier kind g′ p′ h′ q′
+run-on r w = record { first = r .first; second = r .second; lines = r .lines; long = r .long; goes = goes-on (r .goes) w }
