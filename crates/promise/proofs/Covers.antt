@@ -20,7 +20,7 @@ use Rattle.order.specs.Call.{Call}
 use Rattle.order.specs.Call as call
 use Rattle.order.specs.Order.{tests, lineFor, fitBook, lineNumber, openTests}
 use Rattle.gateway.specs.Did.{effect}
-use Rattle.gateway.proofs.Passing.{pass-arrival}
+use Rattle.gateway.proofs.Passing.{addressed}
 use Rattle.promise.specs.Past.{Past, tookPast, handedPast, wrotePast, heardPast}
 use Rattle.promise.specs.Run.{Gateway, does, after, accepts, given, lineAt, Relays, sentPacket, emptyPacket, Provided, Adds, refused, elsewhere, moded, reported, took, handed, sent, wrote, heard}
 use Rattle.promise.proofs.Phases.{Sound, is-open}
@@ -45,7 +45,7 @@ module _ {i identifier kind : ℕ} {g : Gateway} {p : Past} (s : Sound i identif
 
   -- a call that is accepted on the line
   own-adds : (c : Call) → lineFor c (g .book) ≡ i → accepts (does g c out) ≡ true → lineAt (after g c out) i .opened ≡ true → Provided i g p q c → Then c
-  unfolding lineFor effect
+  unfolding lineFor effect tests
   own-adds (call.opening k x time) m e still ok =
       absurd (subst (λ (n : ℕ). accepts (does g (call.opening n x time) out) ≡ true → ⊥) (sym m)
       (λ a. open-refused g i x time out (call-passes g (call.opening i x time) out a) (is-open (s .phase) opened .opened)) e)
@@ -61,8 +61,8 @@ module _ {i identifier kind : ℕ} {g : Gateway} {p : Past} (s : Sound i identif
       subst (λ (n : ℕ). accepts (does g (call.empty n channel) out) ≡ true → Then (call.empty n channel)) (sym m)
       (λ a. (wrotePast p (emptyPacket g p i channel (does g (call.empty i channel) out)), wrote channel a)) e
   own-adds (call.arrival x) m e still ok =
-      let t = pass-arrival (g .book) x (length (g .store)) (length out) (call-passes g (call.arrival x) out e) in
-      let r : Relays g i = subst (Relays g) m (arrives-in (lineAt g (lineFor (call.arrival x) (g .book))) x (t .asked)) in
+      let t = addressed (g .book) (length (g .store)) x (call-passes g (call.arrival x) out e) in
+      let r : Relays g i = subst (Relays g) m (arrives-in (lineAt g (lineFor (call.arrival x) (g .book))) x (t .line)) in
       let k = ok m r in
       (heardPast p (k .0), heard x (k .0) m r (k .1))
   own-adds (call.handOut k channel) m e still ok =
