@@ -120,7 +120,7 @@ module _ {i j identifier kind : ℕ} {g h : Gateway} {p q : Past} (r : Run i j i
 
 -- "all can be handed out": on both channels
 pub both-out : {i j identifier kind : ℕ} {g h : Gateway} {p q : Past} → Run i j identifier kind g p h q → InRelay h j q → AllCame 1 g i p q → AllCame 2 g i p q
-    → (outs : ℕ → List ℕ) → Ample outs → BothOut i j identifier kind g p
+    → (outs : ℕ → List ℕ) → Ample outs → BothOut i j identifier kind g p h q
 both-out {g = g} {p = p} r a one two outs ample =
     let d = all-out r 1 refl a one outs ample in
     let kept = hands-keep 1 refl outs (run-kept r) a (d .hands) in
@@ -130,7 +130,7 @@ both-out {g = g} {p = p} r a one two outs ample =
     record {
       gateway = e .gateway;
       past = e .past;
-      run = hands-run r′ 2 refl (kept .0) outs (e .hands);
+      goes = hands-go 2 refl outs (run-kept r′) (kept .0) (e .hands) (hands-go 1 refl outs (run-kept r) a (d .hands) stay);
       each = λ n v. served (λ c. e .past .handed c ≡ p .taken c) (after .2 1 (λ q. absurd (omega arith)) ∙ d .all) (e .all) n v;
     }
   where

@@ -15,7 +15,7 @@ use Rattle.relay.specs.Asked.{reliable}
 use Rattle.order.specs.Call as call
 use Rattle.flow.specs.Flow.{Sends, Receives, Full, waiting}
 use Rattle.promise.specs.Past.{Past, handedPast}
-use Rattle.promise.specs.Run.{Gateway, does, after, accepts, given, lineAt, Relays, Goes, Run}
+use Rattle.promise.specs.Run.{Gateway, does, after, accepts, given, lineAt, Relays, Goes}
 use Rattle.promise.specs.Ends.{sendsOf, receivesOf}
 
 -- the record of the line, from its opening on; before that it is none of this line's
@@ -81,11 +81,11 @@ pub record AllOut (j channel : ℕ) (p : Past) (h : Gateway) (q : Past) (outs : 
   pub hands : HandsOut j channel outs h q gateway past
   pub all : past .handed channel ≡ p .taken channel
 
--- on both channels, one after the other: the run goes on to where all is handed out
-pub record BothOut (i j identifier kind : ℕ) (g : Gateway) (p : Past) : Type 0 where
+-- on both channels: the one end goes on, and the other stays as it is, until all is handed out
+pub record BothOut (i j identifier kind : ℕ) (g : Gateway) (p : Past) (h : Gateway) (q : Past) : Type 0 where
   pub gateway : Gateway
   pub past : Past
-  pub run : Run i j identifier kind g p gateway past
+  pub goes : Goes i j identifier kind g p h q g p gateway past
   pub each : (channel : ℕ) → reliable channel ≡ true → past .handed channel ≡ p .taken channel
 
 -- The two can go on from where they are, with nothing more taken on the channel, until all that was taken there is handed out.
