@@ -35,7 +35,8 @@ use Rattle.gateway.proofs.Dids.{moved-did}
 use Rattle.laws.proofs.Keeps.{every-call-keeps}
 use Rattle.laws.proofs.Others.{others-stay, rooms-stay}
 use Rattle.promise.specs.Past.{Past, justOpened}
-use Rattle.promise.specs.Run.{Gateway, does, after, accepts, lineAt, Relays}
+use Rattle.promise.specs.Run.{Gateway, accepts, lineAt, Relays}
+use Rattle.promise.specs.Ours.{does, after}
 use Rattle.promise.proofs.Views.{SameRooms}
 use Rattle.promise.proofs.Ends.{End, Joined}
 use Rattle.promise.proofs.Fresh.{Unused, closed-unused, opened-unused, stepped-unused, unused-joined, moded-joined}

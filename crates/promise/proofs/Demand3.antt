@@ -19,8 +19,9 @@ use Rattle.order.specs.Order.{lineFor}
 use Rattle.gateway.specs.Did.{effect}
 use Rattle.laws.proofs.Own.{own-values}
 use Rattle.promise.specs.Past.{Packet, Past}
-use Rattle.promise.specs.Run.{Gateway, does, accepts, lineAt, rankedMark, Honest, Goes, stay, here, there, Run}
-use Rattle.promise.specs.Promise.{sendsBy, receivesBy, Carried, Promised, InRelay, reportBy, AllCame, HandsOut, Ample, AllOut, CanFinish}
+use Rattle.promise.specs.Run.{Gateway, accepts, lineAt, rankedMark, Honest, stay, here, there}
+use Rattle.promise.specs.Promise.{sendsBy, receivesBy, Carried, Promised, InRelay, AllCame, Ample}
+use Rattle.promise.specs.Ours.{does, Goes, Run, reportBy, HandsOut, AllOut, CanFinish}
 use Rattle.promise.proofs.Ends.{turn}
 use Rattle.promise.proofs.Promised as line
 use Rattle.promise.proofs.Own.{call-accepted}

@@ -30,7 +30,8 @@ use Rattle.order.specs.Order as order
 use Rattle.gateway.specs.Did.{effect}
 use Rattle.laws.proofs.Identifiers.{fresh-passes}
 use Rattle.promise.specs.Past.{Packet, Past, nothingYet, heardPast}
-use Rattle.promise.specs.Run.{Gateway, after, lineAt, Relays, Honest, Adds, refused, elsewhere, moded, reported, took, handed, sent, wrote, heard, Step, before, opens, calls, Goes, stay, here, there, Run, freshWith}
+use Rattle.promise.specs.Run.{Gateway, lineAt, Relays, Honest, refused, elsewhere, moded, reported, took, handed, sent, wrote, heard, before, opens, calls, stay, here, there, freshWith}
+use Rattle.promise.specs.Ours.{after, Adds, Step, Goes, Run}
 use Rattle.promise.proofs.Lists.{each-at}
 use Rattle.promise.proofs.Ends.{Joined, turn}
 use Rattle.promise.proofs.Arrived.{arrival-joined, arrival-passes}

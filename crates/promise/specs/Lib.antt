@@ -1,4 +1,6 @@
+pub mod Build
 pub mod Past
 pub mod Run
 pub mod Ends
 pub mod Promise
+pub mod Ours
