@@ -10,7 +10,8 @@ use native.Mathlib.Omega.{arith}
 use lib.Dec.{ltb, leb}
 use lib.ListN.{length, getD}
 use borrow.Author.Tests.{lt-ltb, le-leb, eq-eqb, leb-true}
-use Rattle.ground.specs.Refusal.{Test, verdict}
+use Rattle.ground.specs.Refusal.{Test, must, verdict}
+use Rattle.ground.specs.declared.Refusal.the-variants.{SIZE}
 use Rattle.ground.specs.declared.Verdict.the-variants.{Pass}
 use Rattle.ground.proofs.Picks.{both-true, pick-lt}
 use Rattle.ground.proofs.Verdicts.{passes, verdict-on}
@@ -21,19 +22,20 @@ use Rattle.channel.specs.Channel.{windowOf, cap}
 use Rattle.channel.specs.Distance.{placeOf}
 use Rattle.channel.specs.Sizes.{sizeFits}
 use Rattle.channel.specs.Receiving.{nextSize}
-use Rattle.channel.specs.Sending.{heldCount, heldAt, heldOf}
+use Rattle.channel.specs.Sending.{heldCount, heldAt, heldOf, underWay, takeTests}
 use Rattle.channel.specs.declared.receiving.Receiving.{Receiving}
 use Rattle.channel.specs.declared.sending.Held.{Held}
 use Rattle.channel.specs.declared.sending.Ranked.{Ranked}
 use Rattle.channel.specs.declared.sending.Ranked.the-variants.{Is}
 use Rattle.channel.proofs.Keeps.{receiving-sized}
-use Rattle.flow.specs.Flow.{Full}
+use Rattle.flow.specs.Flow.{Message, Full}
 use Rattle.line.specs.Fit.{largest, lineFits}
 use Rattle.line.specs.Line.{sendingOf, receivingOf}
 use Rattle.line.specs.declared.Line.{Line}
 use Rattle.mode.specs.Given.{modem}
 use Rattle.store.specs.declared.Way.the-variants as way
 use Rattle.relay.specs.Asked.{reliable, relayTests}
+use Rattle.relay.specs.Take.{takeCallTests}
 use Rattle.relay.specs.HandOut.{handCallTests}
 use Rattle.writing.specs.Write.{headerFor, emptyTests}
 use Rattle.writing.specs.Send.{ranked, heldIn, sendTests, sentLength}
@@ -64,6 +66,15 @@ module _ (l : Line) (opened : l .opened ≡ true) (inside : l .modes .local ≡ 
   pub relay-asked : (channel : ℕ) → reliable channel ≡ true → verdict (relayTests l channel) ≡ Pass
   unfolding relayTests
   relay-asked channel v = passes (relayTests l channel) (opened, (eq-eqb _ _ inside, (v, tt)))
+
+  -- a message of a size that fits is taken where the window has room
+  take-may : (channel n : ℕ) → reliable channel ≡ true → 1 ≤ n → n ≤ largest → sendingOf l channel .taken < cap → underWay (sendingOf l channel) < windowOf channel
+      → verdict (takeCallTests l channel n) ≡ Pass
+  unfolding takeCallTests
+  take-may channel n v some few below room =
+      let ts = must (sizeFits largest n) SIZE ∷ takeTests (windowOf channel) (sendingOf l channel) in
+      verdict-on (relayTests l channel) ts (relay-asked channel v)
+      ∙ passes ts (rw (lt-ltb 0 n (omega arith)) (le-leb _ _ few), (lt-ltb _ _ below, (lt-ltb _ _ room, tt)))
 
   -- a message that has a rank is written where the largest packet has room
   module _ (fits : lineFits l ≡ true) (channel rank room : ℕ) (v : reliable channel ≡ true) (roomy : 144 ≤ room) where
@@ -128,6 +139,15 @@ module _ {i identifier kind : ℕ} {g : Gateway} {p : Past} (s : Sound i identif
     unfolding tests
     send-passes rank q r =
         lent (sendTests (lineAt g i) channel rank (length out)) (send-may-by (lineAt g i) (own .opened) (a .1) (line-fits (g .book) (s .fits) i) channel rank (length out) v r q)
+
+    pub take-passes : (m : Message) → 1 ≤ length m → length m ≤ largest → sendsBy g i p channel .S < cap → sendsBy g i p channel .S - sendsBy g i p channel .h < windowOf channel
+        → Passes g (call.taking i channel m) out
+    unfolding tests
+    take-passes m some few below room =
+        let now = end-now g i p (a .0) refl refl in
+        let S : sendsBy g i p channel .S ≡ sendingOf (lineAt g i) channel .taken = ap (λ (e : End). sent e channel .S) now in
+        let h : sendsBy g i p channel .h ≡ sendingOf (lineAt g i) channel .base = ap (λ (e : End). sent e channel .h) now in
+        lent (takeCallTests (lineAt g i) channel (length m)) (take-may (lineAt g i) (own .opened) (a .1) channel (length m) v some few (omega (arith, S)) (omega (arith, S, h)))
 
     -- each held message has a rank that the report counts
     pub held-rank : (n : ℕ) → sendsBy g i p channel .h ≤ n → n < sendsBy g i p channel .S → Full (sendsBy g i p channel .held n)

@@ -101,13 +101,13 @@ opens-kept {i} {identifier} {kind} {g} s e {f} j x time out a b t = go (s .phase
     go (relaying o t r) e j = clash (sym e ∙ t)
 
 -- a change of modes leaves what opening named
-stepped-open : {identifier kind : ℕ} (l : Line) (m : Modes) (k : Channels) → Open identifier kind l → Open identifier kind (steppedTo l m k)
+pub stepped-open : {identifier kind : ℕ} (l : Line) (m : Modes) (k : Channels) → Open identifier kind l → Open identifier kind (steppedTo l m k)
 unfolding steppedTo
 stepped-open l m Stay o = record { opened = o .opened; named = o .named; typed = o .typed }
 stepped-open l m Fresh o = record { opened = o .opened; named = o .named; typed = o .typed }
 stepped-open l m Emptied o = record { opened = o .opened; named = o .named; typed = o .typed }
 
-stepped-modes : (l : Line) (m : Modes) (k : Channels) → steppedTo l m k .modes ≡ m
+pub stepped-modes : (l : Line) (m : Modes) (k : Channels) → steppedTo l m k .modes ≡ m
 unfolding steppedTo
 stepped-modes l m Stay = refl
 stepped-modes l m Fresh = refl

@@ -18,4 +18,5 @@ pub mod Lift
 pub mod Accepts
 pub mod Drains
 pub mod Finish
+pub mod Begins
 pub mod Demand3

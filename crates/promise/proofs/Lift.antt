@@ -133,7 +133,7 @@ goes-kept k (here w s) = step-kept (goes-kept k w) s
 goes-kept k (there w s) = turned (step-kept (turned (goes-kept k w)) s)
 
 -- "Take two fresh gateways"
-fresh-sound : (i identifier kind : ℕ) (store : List ℕ) → 42240 ≤ length store → Sound i identifier kind (freshWith store) nothingYet
+pub fresh-sound : (i identifier kind : ℕ) (store : List ℕ) → 42240 ≤ length store → Sound i identifier kind (freshWith store) nothingYet
 fresh-sound i identifier kind store long = record { fits = fresh-passes .0; shaped = fresh-passes .1; long = long; phase = closed }
 
 pub run-kept : {i j identifier kind : ℕ} {g h : Gateway} {p q : Past} → Run i j identifier kind g p h q → Pair i j identifier kind g p h q

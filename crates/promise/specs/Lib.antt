@@ -4,3 +4,4 @@ pub mod Run
 pub mod Ends
 pub mod Promise
 pub mod Ours
+pub mod Demand3
