@@ -3,6 +3,7 @@ pub mod Views
 pub mod Ends
 pub mod Sent
 pub mod Got
+pub mod PacketBack
 pub mod Wrote
 pub mod Heard
 pub mod Owes
@@ -19,4 +20,7 @@ pub mod Accepts
 pub mod Drains
 pub mod Finish
 pub mod Begins
+pub mod Bodies
+pub mod Packets
+pub mod Demand2
 pub mod Demand3

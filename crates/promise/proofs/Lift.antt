@@ -14,7 +14,6 @@ use Rattle.ground.specs.declared.Verdict.the-variants.{Pass}
 use Rattle.ground.proofs.Verdicts.{passes, verdict-on}
 use Rattle.packet.specs.Read.{headAt, headTests}
 use Rattle.line.specs.Line.{closedLine}
-use Rattle.line.specs.declared.Line.{Line}
 use Rattle.line.proofs.Keeps.{closed-fits}
 use Rattle.arriving.specs.Arrive.{Relaying, arriveTests, arrivedLine, arrivedStore}
 use Rattle.arriving.proofs.Stays.{arrived-stays}

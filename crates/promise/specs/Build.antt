@@ -4,7 +4,8 @@ use Prim.Native.Nat.{ℕ}
 use mathlib.Core.List.{List}
 use lib.ListN.{length}
 use Rattle.ground.specs.Answer.{Answer, writtenAnswer, contents}
-use Rattle.ground.specs.Refusal.{Test, verdict, settle}
+use Rattle.ground.specs.Refusal.{verdict, settle}
+use Rattle.ground.specs.declared.Verdict.{Verdict}
 use Rattle.ground.specs.declared.Written.{Written}
 use Rattle.ground.specs.declared.Written.the-variants.{Wrote, Refused}
 use Rattle.connect.specs.Read.{connectRead}
@@ -37,9 +38,9 @@ pub record Build : Type 0 where
   pub slipRead : List ℕ → Answer
 
 -- octets written into an output, or a refusal
-abbrev pub left : List Test → List ℕ → List ℕ → Left
-left ts octets out =
-    let w : Written = settle (verdict ts) Refused (Wrote (length octets)) in
+abbrev pub leftBy : Verdict → List ℕ → List ℕ → Left
+leftBy v octets out =
+    let w : Written = settle v Refused (Wrote (length octets)) in
     record { answer = writtenAnswer w; out = contents w octets out }
 
 -- OURS: the definitions that the code is proved to meet, answers as document 01's numbers and values
@@ -48,8 +49,8 @@ ours =
     record {
       does = did;
       connectRead = λ s. connect.answerOf (connectRead s);
-      connectWrite = λ c out. left (body.writeTests c (length out)) (connectOctets c) out;
+      connectWrite = λ c out. leftBy (verdict (body.writeTests c (length out))) (connectOctets c) out;
       breakRead = λ s. breaks.answerOf (breaks.breakRead s);
-      breakWrite = λ b out. left (breaks.writeTests b (length out)) (breaks.breakOctets b) out;
+      breakWrite = λ b out. leftBy (verdict (breaks.writeTests b (length out))) (breaks.breakOctets b) out;
       slipRead = λ s. slip.answerOf (slip.slipRead s);
     }

@@ -5,3 +5,4 @@ pub mod Ends
 pub mod Promise
 pub mod Ours
 pub mod Demand3
+pub mod Demand2
