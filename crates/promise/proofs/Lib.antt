@@ -24,3 +24,5 @@ pub mod Bodies
 pub mod Packets
 pub mod Demand2
 pub mod Demand3
+pub mod Idle
+pub mod IdlePackets
