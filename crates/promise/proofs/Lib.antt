@@ -26,3 +26,4 @@ pub mod Demand2
 pub mod Demand3
 pub mod Idle
 pub mod IdlePackets
+pub mod IdleRuns

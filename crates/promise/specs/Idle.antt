@@ -54,12 +54,15 @@ instead writes takes arrives (call.arrival s) = arrives s
 instead writes takes arrives (call.handOut i channel) = did (call.handOut i channel)
 instead writes takes arrives (call.report i channel) = did (call.report i channel)
 
+abbrev pub lets : Arrives
+lets s = did (call.arrival s)
+
 abbrev pub arriving : Arrives → Does
 arriving a = instead did did a
 
 -- "one giving a constant packet": every packet written is s
 abbrev pub constantPacket : List ℕ → Build
-constantPacket s = doing (instead (λ c b store out. made (accepted (length s ∷ [])) b store (s ++ drop (length s) out)) did (λ s. did (call.arrival s)))
+constantPacket s = doing (instead (λ c b store out. made (accepted (length s ∷ [])) b store (s ++ drop (length s) out)) did lets)
 
 -- "one storing nothing": what ours accepts is accepted, and leaves nothing
 abbrev pub forgets : Does
@@ -67,11 +70,14 @@ forgets c b store out = made (did c b store out .answer) b store out
 
 -- of messages taken
 abbrev pub holdsNothing : Build
-holdsNothing = doing (instead did forgets (λ s. did (call.arrival s)))
+holdsNothing = doing (instead did forgets lets)
 
 -- of packets that arrive
+abbrev pub loses : Arrives
+loses s = forgets (call.arrival s)
+
 abbrev pub storesNothing : Build
-storesNothing = doing (arriving (λ s. forgets (call.arrival s)))
+storesNothing = doing (arriving loses)
 
 -- the line as the packet leaves it, but with nothing received
 abbrev unread : Line → Line → Line
