@@ -61,7 +61,7 @@ fresh = freshWith zeros
 -- Two gateways of a build that opens lines and moves their modes as ours does.
 module _ (w t : Does) (a : Arrives) where
   abbrev f : Does
-  f = instead w t a
+  f = instead w t a did
 
   abbrev inside : Gateway
   inside = after f (after f fresh opening []) asks []
@@ -84,7 +84,7 @@ pub holds-nothing-fails : Demand3 holdsNothing → ⊥
 unfolding did done effect tests lineFor openTests modeTests bookFits linesFit allSpan openIn lineFits member noTwice allSpans owedFits modesFit sendingFits receivingFits sizes.sizesFit every asking moved timed channelsFor steppedTo takeCallTests relayTests
 holds-nothing-fails d =
     let w = here (begun did forgets lets) (calls refl (call.taking 0 1 (7 ∷ [])) [] refl (λ _. refl) (took 1 (7 ∷ []) refl)) in
-    let n : _≡_ {A = ℕ} 1 0 = d .promised (run (instead did forgets lets) w) .there 1 refl .counted in
+    let n : _≡_ {A = ℕ} 1 0 = d .promised (run (instead did forgets lets did) w) .there 1 refl .counted in
     omega (arith, n)
 
 -- What is taken at the one gateway and written there.

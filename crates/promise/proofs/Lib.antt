@@ -24,6 +24,7 @@ pub mod Bodies
 pub mod Packets
 pub mod Demand2
 pub mod Demand3
+pub mod Report
 pub mod Idle
 pub mod IdlePackets
 pub mod IdleRuns

@@ -42,27 +42,27 @@ doing f =
 abbrev pub Arrives : Type 0
 Arrives = List ℕ → Book → List ℕ → List ℕ → Did
 
--- ours, but for what is done where a packet is written, a message taken, or a packet arrives
-abbrev pub instead : Does → Does → Arrives → Does
-instead writes takes arrives (call.opening i s time) = did (call.opening i s time)
-instead writes takes arrives (call.closing i) = did (call.closing i)
-instead writes takes arrives (call.mode i a) = did (call.mode i a)
-instead writes takes arrives (call.taking i channel m) = takes (call.taking i channel m)
-instead writes takes arrives (call.sending i channel rank) = writes (call.sending i channel rank)
-instead writes takes arrives (call.empty i channel) = writes (call.empty i channel)
-instead writes takes arrives (call.arrival s) = arrives s
-instead writes takes arrives (call.handOut i channel) = did (call.handOut i channel)
-instead writes takes arrives (call.report i channel) = did (call.report i channel)
+-- ours, but for what is done where a packet is written, a message taken, a packet arrives or a report is asked for
+abbrev pub instead : Does → Does → Arrives → Does → Does
+instead writes takes arrives reports (call.opening i s time) = did (call.opening i s time)
+instead writes takes arrives reports (call.closing i) = did (call.closing i)
+instead writes takes arrives reports (call.mode i a) = did (call.mode i a)
+instead writes takes arrives reports (call.taking i channel m) = takes (call.taking i channel m)
+instead writes takes arrives reports (call.sending i channel rank) = writes (call.sending i channel rank)
+instead writes takes arrives reports (call.empty i channel) = writes (call.empty i channel)
+instead writes takes arrives reports (call.arrival s) = arrives s
+instead writes takes arrives reports (call.handOut i channel) = did (call.handOut i channel)
+instead writes takes arrives reports (call.report i channel) = reports (call.report i channel)
 
 abbrev pub lets : Arrives
 lets s = did (call.arrival s)
 
 abbrev pub arriving : Arrives → Does
-arriving a = instead did did a
+arriving a = instead did did a did
 
 -- "one giving a constant packet": every packet written is s
 abbrev pub constantPacket : List ℕ → Build
-constantPacket s = doing (instead (λ c b store out. made (accepted (length s ∷ [])) b store (s ++ drop (length s) out)) did lets)
+constantPacket s = doing (instead (λ c b store out. made (accepted (length s ∷ [])) b store (s ++ drop (length s) out)) did lets did)
 
 -- "one storing nothing": what ours accepts is accepted, and leaves nothing
 abbrev pub forgets : Does
@@ -70,7 +70,7 @@ forgets c b store out = made (did c b store out .answer) b store out
 
 -- of messages taken
 abbrev pub holdsNothing : Build
-holdsNothing = doing (instead did forgets lets)
+holdsNothing = doing (instead did forgets lets did)
 
 -- of packets that arrive
 abbrev pub loses : Arrives
@@ -110,3 +110,7 @@ misleads s b store out = did (call.arrival (getD (openIn (b .lines)) 0 0 ∷ dro
 
 abbrev pub callersLine : Build
 callersLine = doing (arriving misleads)
+
+-- "A held count made up at will"
+abbrev pub madeUp : ℕ → Build
+madeUp n = doing (instead did did lets (λ c b store out. made (accepted (n ∷ [])) b store out))
