@@ -55,7 +55,7 @@ opening = call.opening 0 (named 5) 0
 abbrev asks : Call
 asks = call.mode 0 (ask modem 0)
 
-abbrev fresh : Gateway
+abbrev pub fresh : Gateway
 fresh = freshWith zeros
 
 -- Two gateways of a build that opens lines and moves their modes as ours does.
@@ -63,10 +63,10 @@ module _ (w t : Does) (a : Arrives) where
   abbrev f : Does
   f = instead w t a did
 
-  abbrev inside : Gateway
+  abbrev pub inside : Gateway
   inside = after f (after f fresh opening []) asks []
 
-  begun : Goes f 0 0 5 98 fresh nothingYet fresh nothingYet inside justOpened inside justOpened
+  pub begun : Goes f 0 0 5 98 fresh nothingYet fresh nothingYet inside justOpened inside justOpened
   unfolding did done effect tests lineFor openTests modeTests bookFits linesFit allSpan openIn lineFits member noTwice allSpans owedFits modesFit sendingFits receivingFits sizes.sizesFit every asking moved timed channelsFor steppedTo
   begun =
       there (here (there (here stay
@@ -76,7 +76,7 @@ module _ (w t : Does) (a : Arrives) where
       (calls refl asks [] refl (λ _. refl) (moded (ask modem 0)))
 
 -- a run of two from line 0 to line 0
-abbrev run : (f : Does) {g h : Gateway} {p q : Past} → Goes f 0 0 5 98 fresh nothingYet fresh nothingYet g p h q → Run f 0 0 5 98 g p h q
+abbrev pub run : (f : Does) {g h : Gateway} {p q : Past} → Goes f 0 0 5 98 fresh nothingYet fresh nothingYet g p h q → Run f 0 0 5 98 g p h q
 run f w = record { first = zeros; second = zeros; lines = (lit< tt, lit< tt); long = (lit≤ tt, lit≤ tt); goes = w }
 
 -- a message that is taken is counted

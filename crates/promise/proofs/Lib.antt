@@ -28,3 +28,4 @@ pub mod Report
 pub mod Idle
 pub mod IdlePackets
 pub mod IdleRuns
+pub mod IdleRoom

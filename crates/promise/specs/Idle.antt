@@ -1,4 +1,5 @@
--- IDLE BUILDS: what a quick or empty build would do, written down as builds. None meets both demands.
+-- IDLE BUILDS: what a quick or empty build would do, written down as builds. Each is shown to fail a demand. Of document 01's 'Errors a quick build
+-- makes' one is not here, as no demand excludes it: a repeat that goes unacknowledged. It is the exact contract of an arrival that does.
 -- Assumes nothing.
 use Prim.Native.Nat.{ℕ}
 use mathlib.Core.List.{List, [], _∷_, _++_}
@@ -8,6 +9,12 @@ use Rattle.ground.specs.Answer.{accepted, refused}
 use Rattle.ground.specs.Pick.{pick}
 use Rattle.ground.specs.declared.Refusal.{Refusal}
 use Rattle.packet.specs.Read.{headAt}
+use Rattle.places.specs.Places.{maskOf, rankOf}
+use Rattle.places.specs.declared.Place.{Place}
+use Rattle.places.specs.declared.Place.the-variants.{At, Missing}
+use Rattle.channel.specs.Sending.{underWay, movedBy}
+use Rattle.channel.specs.declared.sending.Sending.{Sending}
+use Rattle.line.specs.Line.{withSides}
 use Rattle.line.specs.declared.Line.{Line}
 use Rattle.book.specs.Book.{lineOf, withLine, openIn}
 use Rattle.book.specs.declared.Book.{Book}
@@ -114,3 +121,22 @@ callersLine = doing (arriving misleads)
 -- "A held count made up at will"
 abbrev pub madeUp : ℕ → Build
 madeUp n = doing (instead did did lets (λ c b store out. made (accepted (n ∷ [])) b store out))
+
+-- "Freeing send room on acknowledgement alone": h moves on to the oldest message that is not acknowledged
+abbrev pastAcked : ℕ → Sending → Place → Sending
+pastAcked w s (At d) = movedBy w s d
+pastAcked w s Missing = movedBy w s (underWay s)
+
+abbrev freed : Line → Line
+freed l =
+    withSides l (pastAcked 32 (l .sending1) (rankOf (maskOf (l .sending1 .unacked)) 0)) (pastAcked 8 (l .sending2) (rankOf (maskOf (l .sending2 .unacked)) 0))
+    (l .receiving1) (l .receiving2)
+
+abbrev pub frees : Arrives
+frees s b store out =
+    let d = did (call.arrival s) b store out in
+    let i = lineFor (call.arrival s) b in
+    made (d .answer) (withLine (d .book) i (freed (lineOf (d .book) i))) (d .store) out
+
+abbrev pub freesOnAck : Build
+freesOnAck = doing (arriving frees)
