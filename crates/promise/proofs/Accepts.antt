@@ -22,7 +22,7 @@ use Rattle.channel.specs.Channel.{windowOf, cap}
 use Rattle.channel.specs.Distance.{placeOf}
 use Rattle.channel.specs.Sizes.{sizeFits}
 use Rattle.channel.specs.Receiving.{nextSize}
-use Rattle.channel.specs.Sending.{takeTests, heldCount, heldAt, heldOf}
+use Rattle.channel.specs.Sending.{heldCount, heldAt, heldOf, takeTests}
 use Rattle.channel.specs.declared.receiving.Receiving.{Receiving}
 use Rattle.channel.specs.declared.sending.Held.{Held}
 use Rattle.channel.specs.declared.sending.Ranked.{Ranked}
@@ -127,10 +127,10 @@ module _ {i identifier kind : ℕ} {g : Gateway} {p : Past} (s : Sound i identif
     report-passes = on (relayTests (lineAt g i) channel) (relay-asked (lineAt g i) (own .opened) (a .1) channel v)
 
     -- a message is taken unless it is FULL or SPENT
-    pub take-passes : (m : Message) → 0 < length m → length m ≤ largest → sendingOf (lineAt g i) channel .taken < cap
+    pub taking-passes : (m : Message) → 0 < length m → length m ≤ largest → sendingOf (lineAt g i) channel .taken < cap
         → sendingOf (lineAt g i) channel .taken - sendingOf (lineAt g i) channel .base < windowOf channel → Passes g (call.taking i channel m) out
     unfolding tests takeCallTests
-    take-passes m some small under near =
+    taking-passes m some small under near =
         let l = lineAt g i in
         let sized : sizeFits largest (length m) ≡ true = rw (lt-ltb 0 (length m) some, le-leb (length m) largest small) in
         let rest = must (sizeFits largest (length m)) SIZE ∷ takeTests (windowOf channel) (sendingOf l channel) in
@@ -141,6 +141,15 @@ module _ {i identifier kind : ℕ} {g : Gateway} {p : Past} (s : Sound i identif
     unfolding tests
     send-passes rank q r =
         lent (sendTests (lineAt g i) channel rank (length out)) (send-may-by (lineAt g i) (own .opened) (a .1) (line-fits (g .book) (s .fits) i) channel rank (length out) v r q)
+
+    pub take-passes : (m : Message) → 1 ≤ length m → length m ≤ largest → sendsBy g i p channel .S < cap → sendsBy g i p channel .S - sendsBy g i p channel .h < windowOf channel
+        → Passes g (call.taking i channel m) out
+    unfolding tests
+    take-passes m some few below room =
+        let now = end-now g i p (a .0) refl refl in
+        let S : sendsBy g i p channel .S ≡ sendingOf (lineAt g i) channel .taken = ap (λ (e : End). sent e channel .S) now in
+        let h : sendsBy g i p channel .h ≡ sendingOf (lineAt g i) channel .base = ap (λ (e : End). sent e channel .h) now in
+        taking-passes m some few (omega (arith, S)) (omega (arith, S, h))
 
     -- each held message has a rank that the report counts
     pub held-rank : (n : ℕ) → sendsBy g i p channel .h ≤ n → n < sendsBy g i p channel .S → Full (sendsBy g i p channel .held n)

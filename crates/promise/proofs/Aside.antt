@@ -35,7 +35,8 @@ use Rattle.gateway.proofs.Dids.{moved-did}
 use Rattle.laws.proofs.Keeps.{every-call-keeps}
 use Rattle.laws.proofs.Others.{others-stay, rooms-stay}
 use Rattle.promise.specs.Past.{Past, justOpened}
-use Rattle.promise.specs.Run.{Gateway, does, after, accepts, lineAt, Relays}
+use Rattle.promise.specs.Run.{Gateway, accepts, lineAt, Relays}
+use Rattle.promise.specs.Ours.{does, after}
 use Rattle.promise.proofs.Views.{SameRooms}
 use Rattle.promise.proofs.Ends.{End, Joined}
 use Rattle.promise.proofs.Fresh.{Unused, closed-unused, opened-unused, stepped-unused, unused-joined, moded-joined}
@@ -100,7 +101,7 @@ opens-kept {i} {identifier} {kind} {g} s e {f} j x time out a b t = go (s .phase
     go (relaying o t r) e j = clash (sym e ∙ t)
 
 -- a change of modes leaves what opening named
-stepped-open : {identifier kind : ℕ} (l : Line) (m : Modes) (k : Channels) → Open identifier kind l → Open identifier kind (steppedTo l m k)
+pub stepped-open : {identifier kind : ℕ} (l : Line) (m : Modes) (k : Channels) → Open identifier kind l → Open identifier kind (steppedTo l m k)
 unfolding steppedTo
 stepped-open l m Stay o = record { opened = o .opened; named = o .named; typed = o .typed }
 stepped-open l m Fresh o = record { opened = o .opened; named = o .named; typed = o .typed }

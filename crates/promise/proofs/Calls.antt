@@ -29,7 +29,8 @@ use Rattle.order.specs.Order.{tests, lineFor, fitBook, roomy, lineNumber}
 use Rattle.gateway.specs.Did.{effect}
 use Rattle.flow.specs.Flow.{Message}
 use Rattle.promise.specs.Past.{Mark, Past, tookPast, handedPast, wrotePast}
-use Rattle.promise.specs.Run.{Gateway, does, after, given, lineAt, Relays, rankedMark, baseMark, sentPacket, emptyPacket}
+use Rattle.promise.specs.Run.{Gateway, given, lineAt, Relays, rankedMark, baseMark, sentPacket, emptyPacket}
+use Rattle.promise.specs.Ours.{does, after}
 use Rattle.promise.proofs.Ends.{End, Joined}
 use Rattle.promise.proofs.Sent.{asked-open, taking-joined}
 use Rattle.promise.proofs.Got.{hand-joined}

@@ -22,7 +22,8 @@ use Rattle.order.specs.Order.{tests, lineFor, fitBook, lineNumber, openTests}
 use Rattle.gateway.specs.Did.{effect}
 use Rattle.gateway.proofs.Passing.{addressed}
 use Rattle.promise.specs.Past.{Past, tookPast, handedPast, wrotePast, heardPast}
-use Rattle.promise.specs.Run.{Gateway, does, after, accepts, given, lineAt, Relays, sentPacket, emptyPacket, Provided, Adds, refused, elsewhere, moded, reported, took, handed, sent, wrote, heard}
+use Rattle.promise.specs.Ours.{does, after, Adds}
+use Rattle.promise.specs.Run.{Gateway, accepts, given, lineAt, Relays, sentPacket, emptyPacket, Provided, refused, elsewhere, moded, reported, took, handed, sent, wrote, heard}
 use Rattle.promise.proofs.Phases.{Sound, is-open}
 use Rattle.promise.proofs.Own.{Passes, call-passes, line-left}
 

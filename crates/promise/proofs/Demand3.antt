@@ -18,17 +18,23 @@ use Rattle.relay.proofs.Lines.{channel-span}
 use Rattle.order.specs.Call.{Call}
 use Rattle.order.specs.Call as call
 use Rattle.order.specs.Order.{lineFor}
-use Rattle.gateway.specs.Did.{effect}
+use Rattle.gateway.specs.Did.{did, effect}
 use Rattle.laws.proofs.Own.{own-values}
-use Rattle.promise.specs.Past.{Packet, Past}
-use Rattle.promise.specs.Run.{Gateway, does, after, accepts, lineAt, Relays, rankedMark, Honest, Provided, calls, Goes, stay, here, there, Run}
-use Rattle.promise.specs.Promise.{sendsBy, receivesBy, Carried, Promised, InRelay, reportBy, AllCame, HandsOut, Ample, AllOut, BothOut, CanFinish}
-use Rattle.promise.proofs.Ends.{turn}
+use Rattle.promise.specs.Build.{ours}
+use Rattle.promise.specs.Past.{Packet, Past, tookPast, wrotePast, heardPast}
+use Rattle.promise.specs.Run.{Gateway, accepts, lineAt, Relays, rankedMark, Honest, Provided, calls, stay, here, there}
+use Rattle.promise.specs.Promise.{sendsBy, receivesBy, Carried, Promised, InRelay, AllCame, Ample}
+use Rattle.promise.specs.Ours.{does, after, Goes, Run, reportBy, HandsOut, AllOut, BothOut, CanFinish}
+use Rattle.promise.specs.Demand3.{Serves, Served, Demand3}
+use Rattle.promise.proofs.Ends.{End, turn}
+use Rattle.promise.proofs.Phases.{is-open}
+use Rattle.promise.proofs.Calls.{LeftIn, took-kept, sent-kept, wrote-kept}
+use Rattle.promise.proofs.Begins.{begins}
 use Rattle.promise.proofs.Promised as line
-use Rattle.promise.proofs.Own.{call-accepted}
+use Rattle.promise.proofs.Own.{Passes, call-passes, call-accepted}
 use Rattle.promise.proofs.Covers.{call-adds}
-use Rattle.promise.proofs.Lift.{Pair, run-kept, run-on, arrival-tests}
-use Rattle.promise.proofs.Accepts.{report-passes, send-passes, held-rank, hand-passes, empty-passes}
+use Rattle.promise.proofs.Lift.{Pair, run-kept, run-on, arrives-here, arrival-tests, heard-kept}
+use Rattle.promise.proofs.Accepts.{report-passes, take-passes, send-passes, held-rank, hand-passes, empty-passes}
 use Rattle.promise.proofs.Drains.{drains, hands-go, hands-keep}
 use Rattle.promise.proofs.Finish.{finishes}
 
@@ -146,3 +152,41 @@ both-out {g = g} {p = p} r a one two outs ample =
 -- "on each reliable channel, each way"
 pub promised : {i j identifier kind : ℕ} {g h : Gateway} {p q : Past} → Run i j identifier kind g p h q → Promised g i p h j q
 promised r = record { there = carried r; back = carried (turned-run r) }
+
+-- an accepted call that leaves the line in modem relay
+serves : {i identifier kind : ℕ} {g : Gateway} {p : Past} {f : End} (c : Call) (out : List ℕ) → Passes g c out → p .opened ≡ true → LeftIn i identifier kind f (after g c out) p
+    → Serves did g i c out
+serves {g = g} c out pass o left = record { accepted = call-accepted g c out pass; opened = is-open (left .1 .0) o .opened; inside = left .0 }
+
+-- the line is served
+all-served : {i j identifier kind : ℕ} {g h : Gateway} {p q : Past} → Run i j identifier kind g p h q → InRelay g i p → Served did i j identifier kind g p h q
+all-served {i} {g = g} {p = p} r a =
+    let k = run-kept r in
+    let s = k .mine in
+    let o = a .0 in
+    record {
+      takes = λ channel v m some few below room out.
+          let pass = take-passes s a (k .joined) out channel v m some few below room in
+          serves {p = tookPast p channel m} (call.taking i channel m) out pass o (took-kept s o (k .joined) out channel m pass);
+      ranks = λ channel v n low high full. each-has-rank r channel v a n low high full;
+      sends = λ channel v rank l out room.
+          let pass = call-passes g (call.sending i channel rank) out (sends-accepted r channel v a rank l out room) in
+          serves {p = wrotePast p _} (call.sending i channel rank) out pass o (sent-kept s o (k .joined) out channel rank pass);
+      empties = λ channel c out room.
+          let pass = empty-passes s a (k .joined) out channel c room in
+          serves {p = wrotePast p _} (call.empty i channel) out pass o (wrote-kept s o (k .joined) out channel pass);
+      arrives = λ x packet honest out. (
+        arrives-here s (k .yours) o (k .joined) x packet (a .1) honest out,
+        serves {p = heardPast p packet} (call.arrival x) out (arrival-tests s (k .yours) o (k .joined) x packet (a .1) honest out) o (heard-kept s (k .yours) o (k .joined) x packet (a .1) honest out),
+      );
+    }
+
+-- OURS MEETS DEMAND 3
+pub ours-demand3 : Demand3 ours
+ours-demand3 =
+    record {
+      begins = begins;
+      promised = promised;
+      served = all-served;
+      ends = λ r a b channel v. record { all-out = all-out r channel v b; finishes = can-finish r channel v a b };
+    }

@@ -17,8 +17,9 @@ use Rattle.order.specs.Call as call
 use Rattle.order.specs.Order.{lineFor}
 use Rattle.gateway.specs.Did.{effect}
 use Rattle.promise.specs.Past.{Past, handedPast}
-use Rattle.promise.specs.Run.{Gateway, does, after, given, Adds, handed, Step, calls, Goes, there}
-use Rattle.promise.specs.Promise.{sendsBy, receivesBy, InRelay, AllCame, outAt, HandsOut, done, next, Ample, AllOut}
+use Rattle.promise.specs.Run.{Gateway, given, handed, calls, there}
+use Rattle.promise.specs.Promise.{sendsBy, receivesBy, InRelay, AllCame, outAt, done, next, Ample}
+use Rattle.promise.specs.Ours.{does, after, Adds, Step, Goes, HandsOut, AllOut}
 use Rattle.promise.proofs.Ends.{End, Joined, turn, got}
 use Rattle.promise.proofs.Sent.{more-other}
 use Rattle.promise.proofs.Got.{hands}

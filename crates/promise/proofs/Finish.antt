@@ -22,8 +22,9 @@ use Rattle.order.specs.Call as call
 use Rattle.order.specs.Order.{lineFor}
 use Rattle.gateway.specs.Did.{effect}
 use Rattle.promise.specs.Past.{Mark, Packet, Past, wrotePast, heardPast}
-use Rattle.promise.specs.Run.{Gateway, does, after, lineAt, Each, none, also, Recent, Honest, rankedMark, baseMark, sentPacket, emptyPacket, Adds, sent, wrote, heard, Goes, stay, here, there}
-use Rattle.promise.specs.Promise.{sendsBy, InRelay, AllCame, CanFinish}
+use Rattle.promise.specs.Run.{Gateway, lineAt, Each, none, also, Recent, Honest, rankedMark, baseMark, sentPacket, emptyPacket, sent, wrote, heard, stay, here, there}
+use Rattle.promise.specs.Promise.{sendsBy, InRelay, AllCame}
+use Rattle.promise.specs.Ours.{does, after, Adds, Goes, CanFinish}
 use Rattle.promise.proofs.Ends.{End, Joined, turn, mark}
 use Rattle.promise.proofs.Ends as ends
 use Rattle.promise.proofs.Phases.{endOf, Sound, end-now}

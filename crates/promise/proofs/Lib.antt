@@ -3,6 +3,7 @@ pub mod Views
 pub mod Ends
 pub mod Sent
 pub mod Got
+pub mod PacketBack
 pub mod Wrote
 pub mod Heard
 pub mod Owes
@@ -20,4 +21,13 @@ pub mod Accepts
 pub mod Drains
 pub mod Finish
 pub mod Meets
+pub mod Begins
+pub mod Bodies
+pub mod Packets
+pub mod Demand2
 pub mod Demand3
+pub mod Report
+pub mod Idle
+pub mod IdlePackets
+pub mod IdleRuns
+pub mod IdleRoom

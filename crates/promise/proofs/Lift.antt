@@ -29,7 +29,8 @@ use Rattle.order.specs.Order as order
 use Rattle.gateway.specs.Did.{effect}
 use Rattle.laws.proofs.Identifiers.{fresh-passes}
 use Rattle.promise.specs.Past.{Packet, Past, nothingYet, heardPast}
-use Rattle.promise.specs.Run.{Gateway, after, lineAt, Relays, Honest, Adds, refused, elsewhere, moded, reported, took, handed, sent, wrote, heard, Step, before, opens, calls, Goes, stay, here, there, Run, freshWith}
+use Rattle.promise.specs.Run.{Gateway, lineAt, Relays, Honest, refused, elsewhere, moded, reported, took, handed, sent, wrote, heard, before, opens, calls, stay, here, there, freshWith}
+use Rattle.promise.specs.Ours.{after, Adds, Step, Goes, Run}
 use Rattle.promise.proofs.Lists.{each-at}
 use Rattle.promise.proofs.Ends.{Joined, turn}
 use Rattle.promise.proofs.Arrived.{arrival-joined, arrival-passes}
@@ -131,7 +132,7 @@ goes-kept k (here w s) = step-kept (goes-kept k w) s
 goes-kept k (there w s) = turned (step-kept (turned (goes-kept k w)) s)
 
 -- "Take two fresh gateways"
-fresh-sound : (i identifier kind : ℕ) (store : List ℕ) → 42240 ≤ length store → Sound i identifier kind (freshWith store) nothingYet
+pub fresh-sound : (i identifier kind : ℕ) (store : List ℕ) → 42240 ≤ length store → Sound i identifier kind (freshWith store) nothingYet
 fresh-sound i identifier kind store long = record { fits = fresh-passes .0; shaped = fresh-passes .1; long = long; phase = closed }
 
 pub fresh-pair : (i j identifier kind : ℕ) (first second : List ℕ) → (i < 4) × (j < 4) → (42240 ≤ length first) × (42240 ≤ length second)

@@ -34,7 +34,8 @@ use Rattle.order.specs.Call as call
 use Rattle.order.specs.Order.{tests, lineFor, fitBook, lineNumber, openTests}
 use Rattle.gateway.specs.Did.{effect}
 use Rattle.promise.specs.Past.{Past, nothingYet, justOpened, more}
-use Rattle.promise.specs.Run.{Gateway, after, lineAt, Relays, moded, took, Step, opens, calls, stay, here, there, Run, freshWith}
+use Rattle.promise.specs.Ours.{after, Step, Run}
+use Rattle.promise.specs.Run.{Gateway, lineAt, Relays, moded, took, opens, calls, stay, here, there, freshWith}
 use Rattle.promise.specs.Promise.{InRelay}
 use Rattle.promise.proofs.Sent.{more-here}
 use Rattle.promise.proofs.Fresh.{Unused, opened-unused, stepped-unused}
@@ -42,7 +43,7 @@ use Rattle.promise.proofs.Own.{Passes, call-accepted, line-left}
 use Rattle.promise.proofs.Calls.{took-kept}
 use Rattle.promise.proofs.Aside.{mode-line, mode-open, stepped-modes}
 use Rattle.promise.proofs.Lift.{Pair, turned, step-kept, fresh-pair, run-kept, run-on}
-use Rattle.promise.proofs.Accepts.{take-passes}
+use Rattle.promise.proofs.Accepts.{taking-passes}
 use Rattle.promise.proofs.Drains.{relay-step}
 use Rattle.promise.proofs.Finish.{finishes}
 
@@ -139,7 +140,7 @@ module _ (identifier kind : ℕ) (fitting : settingsFit identifier kind ≡ true
       let c = call.taking i channel m in
       let fresh : sendingOf (lineAt g i) channel ≡ freshSending = met .unused .sending channel in
       let none : sendingOf (lineAt g i) channel .taken ≡ 0 = ap (λ (s : Sending). s .taken) fresh in
-      let pass = take-passes (k .mine) (met .mine) (k .joined) [] channel v m some small (omega (arith, none, big)) (omega (arith, none, wide channel)) in
+      let pass = taking-passes (k .mine) (met .mine) (k .joined) [] channel v m some small (omega (arith, none, big)) (omega (arith, none, wide channel)) in
       let left = took-kept (k .mine) refl (k .joined) [] channel m pass in
       let step = relay-step refl c [] refl left (took channel m (call-accepted g c [] pass)) in
       let d = finishes (step-kept k step) (refl, left .0) (met .yours) channel v in

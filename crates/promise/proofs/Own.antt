@@ -17,7 +17,8 @@ use Rattle.gateway.specs.Did.{effect}
 use Rattle.laws.proofs.Own.{accepted-passes, passes-accepted, own-line, own-store, own-out, own-values}
 use Rattle.gateway.proofs.Refusing.{Unchanged, refusal-changes-nothing}
 use Rattle.promise.specs.Past.{Past}
-use Rattle.promise.specs.Run.{Gateway, does, after, accepts, given, lineAt}
+use Rattle.promise.specs.Run.{Gateway, accepts, given, lineAt}
+use Rattle.promise.specs.Ours.{does, after}
 use Rattle.promise.proofs.Phases.{Sound}
 
 -- all its tests hold

@@ -19,8 +19,9 @@ use Rattle.book.specs.Shape.{BookShaped}
 use Rattle.order.specs.Call.{Call}
 use Rattle.laws.proofs.Keeps.{every-call-keeps, store-length}
 use Rattle.promise.specs.Past.{Past, nothingYet, justOpened}
-use Rattle.promise.specs.Run.{Gateway, after, lineAt, Relays}
+use Rattle.promise.specs.Run.{Gateway, lineAt, Relays}
 use Rattle.promise.specs.Promise.{lineIn}
+use Rattle.promise.specs.Ours.{after}
 use Rattle.promise.proofs.Views.{SameRooms}
 use Rattle.promise.proofs.Ends.{End, Joined}
 use Rattle.promise.proofs.Fresh.{Unused, closed-unused, unused-joined, beside-joined}

@@ -1,17 +1,17 @@
 -- A packet is written: what its octets say, read back, is true of the end, and the owed numbers that it carries leave the list.
 -- Assumes nothing.
-use Prim.Native.Nat.{ℕ, zero, suc, _+_, _%_, _≤_, _<_, min}
+use Prim.Native.Nat.{ℕ, zero, suc, _+_, _%_, _≤_, _<_}
 use mathlib.Core.Path.{_≡_, refl, sym, ap, subst, transport, _∙_}
 use mathlib.Core.Bool.{true}
 use mathlib.Core.List.{List, [], _∷_}
 use native.Mathlib.Omega.{arith}
 use lib.Dec.{eqb, ltb}
-use lib.ListN.{length, take, drop, getD}
+use lib.ListN.{take, drop, getD}
 use borrow.Author.Tests.{eqb-true, leb-true, ne-eqb}
 use Rattle.ground.specs.Pick.{pick}
 use Rattle.ground.specs.Refusal.{verdict, settle}
 use Rattle.ground.specs.declared.Verdict.{Verdict}
-use Rattle.ground.specs.declared.Verdict.the-variants.{Pass, Refuse}
+use Rattle.ground.specs.declared.Verdict.the-variants.{Pass}
 use Rattle.ground.proofs.Picks.{both-true, clash}
 use Rattle.ground.proofs.Verdicts.{passed}
 use Rattle.places.specs.Places.{maskOf, rankOf}
@@ -19,11 +19,10 @@ use Rattle.places.specs.declared.Place.{Place}
 use Rattle.places.specs.declared.Place.the-variants.{At, Missing}
 use Rattle.places.proofs.Ranks.{rank-holds}
 use Rattle.packet.specs.Acks.{ackList}
-use Rattle.packet.specs.Read.{headAt, acksAt, headTests, headRead}
+use Rattle.packet.specs.Read.{headAt}
 use Rattle.packet.specs.Write.{packetOctets, writeTests}
 use Rattle.packet.specs.declared.Head.{Head}
-use Rattle.packet.specs.declared.HeadRead.the-variants as head
-use Rattle.packet.proofs.Back.{head-round, acks-round, payload-round, size-round}
+use Rattle.packet.proofs.Back.{size-round}
 use Rattle.channel.specs.Channel.{modulus, windowOf}
 use Rattle.channel.specs.Distance.{placeOf}
 use Rattle.channel.specs.Sending.{heldAt, heldOf}
@@ -34,7 +33,6 @@ use Rattle.flow.specs.Flow.{Message, Full, Data}
 use Rattle.flow.specs.View.{Rooms}
 use Rattle.flow.proofs.Messages.{message-in, message-full}
 use Rattle.flow.proofs.OneWay.{ranked-message}
-use Rattle.owed.specs.Owed.{owedOf, firstThree}
 use Rattle.owed.proofs.Steps.{left-list}
 use Rattle.line.specs.Fit.{largest}
 use Rattle.line.specs.Line.{sendingOf, receivingOf}
@@ -53,10 +51,10 @@ use Rattle.writing.specs.declared.MaySend.the-variants as may
 use Rattle.writing.proofs.Packets.{empty-passes}
 use Rattle.writing.proofs.Sends.{may-sendable, send-reliable, send-passes}
 use Rattle.writing.proofs.Keeps.{wrote-line-keeps}
-use Rattle.arriving.proofs.Arrivals.{head-is, list-said, list-is}
 use Rattle.promise.specs.Past.{Mark, Packet, wrotePast}
 use Rattle.promise.specs.Run.{also}
 use Rattle.promise.specs.Ends.{roomsOf}
+use Rattle.promise.proofs.PacketBack.{first-three, packet-says}
 use Rattle.promise.proofs.Lists.{each-take, each-drop, take-map, drop-map}
 use Rattle.promise.proofs.Views.{rooms-roomy}
 use Rattle.promise.proofs.Ends.{End, Names, nothing, reached, Carries, message, Says, Whole, Joined, mark, markWord, sent, got, sends-ok}
@@ -107,24 +105,6 @@ wrote-joined {e} k opened inside says j =
       back = j .back;
     }
 
--- the acknowledgements of a packet are the first three owed numbers
-three : (ws : List ℕ) → take (min 3 (length ws)) (getD ws 0 0 ∷ getD ws 1 0 ∷ getD ws 2 0 ∷ []) ≡ take 3 ws
-three [] = refl
-three (a ∷ []) = refl
-three (a ∷ b ∷ []) = refl
-three (a ∷ b ∷ c ∷ ws) = let e : min 3 (length (a ∷ b ∷ c ∷ ws)) ≡ 3 = omega arith in rw e
-
-first-three : (l : Line) → ackList (acksFor l) ≡ take 3 (owedOf (l .owed))
-unfolding acksFor firstThree
-first-three l = three (owedOf (l .owed))
-
-head-said : (s : List ℕ) {h : Head} → headRead s ≡ head.Says h → verdict (headTests s) ≡ Pass
-head-said s {h} = go (verdict (headTests s))
-  where
-    go : (v : Verdict) → settle v head.Refused (head.Says (headAt s)) ≡ head.Says h → v ≡ Pass
-    go Pass e = refl
-    go (Refuse q) e = absurd (let z : _≡_ {A = ℕ} 0 1 = cc in omega arith)
-
 -- what is written reads back
 module _ (e : End) (k : Whole e) (channel number room : ℕ) (payload : List ℕ) where
   abbrev h : Head
@@ -136,23 +116,18 @@ module _ (e : End) (k : Whole e) (channel number room : ℕ) (payload : List ℕ
   pub written-says : (carried named : List Mark) → verdict (writeTests h (acksFor (e .line)) payload largest room) ≡ Pass → Names (got e) channel (baseFor (e .line) channel) named
       → Carries (e .past .taken) channel number payload carried → Says e (record { octets = written; carries = carried; names = named; acks = take 3 (e .past .owes) })
   written-says carried named pass base load =
-      let a = head-round h (acksFor (e .line)) payload largest room pass in
-      let b = acks-round h (acksFor (e .line)) payload largest room pass in
-      let c = payload-round h (acksFor (e .line)) payload largest room pass in
-      let plain = head-said written a in
-      let listed = list-said written b in
-      let d : headAt written ≡ h = sym (head-is written plain a) in
-      let g : acksAt written ≡ acksFor (e .line) = sym (list-is written listed b) in
+      let r = packet-says h (acksFor (e .line)) payload largest room pass in
+      let d : headAt written ≡ h = r .head-back in
       record {
-        plain = plain;
-        listed = listed;
+        plain = r .plain;
+        listed = r .listed;
         sized = size-round h (acksFor (e .line)) payload largest room pass;
         named = ap (λ (x : Head). x .identifier) d;
         typed = ap (λ (x : Head). x .kind) d;
-        words = ap ackList g ∙ first-three (e .line) ∙ ap (take 3) (k .owed) ∙ take-map markWord 3 (e .past .owes);
+        words = ap ackList (r .acks-back) ∙ first-three (e .line) ∙ ap (take 3) (k .owed) ∙ take-map markWord 3 (e .past .owes);
         acks = each-take 3 (k .owes);
         names = subst (λ (x : Head). Names (got e) (x .channel) (x .base) named) (sym d) base;
-        carries = transport (λ i. Carries (e .past .taken) (sym d i .channel) (sym d i .number) (sym c i) carried) load;
+        carries = transport (λ i. Carries (e .past .taken) (sym d i .channel) (sym d i .number) (sym (r .payload-back) i) carried) load;
       }
 
 -- a channel that is reliable has a base

@@ -14,6 +14,7 @@ use Rattle.line.specs.declared.Line.{Line}
 use Rattle.relay.specs.Asked.{reliable}
 use Rattle.order.specs.Call as call
 use Rattle.flow.specs.Flow.{Sends, Receives, Full, waiting}
+use Rattle.promise.specs.Build.{Does}
 use Rattle.promise.specs.Past.{Past, handedPast}
 use Rattle.promise.specs.Run.{Gateway, does, after, accepts, given, lineAt, Relays, Goes}
 use Rattle.promise.specs.Ends.{sendsOf, receivesOf}
@@ -49,10 +50,6 @@ pub record Promised (g : Gateway) (i : ℕ) (p : Past) (h : Gateway) (j : ℕ) (
 abbrev pub InRelay : Gateway → ℕ → Past → Type 0
 InRelay g i p = (p .opened ≡ true) × Relays g i
 
--- "A report says how many messages are held there unacknowledged": what the call answers
-abbrev pub reportBy : Gateway → ℕ → ℕ → ℕ
-reportBy g i channel = getD (does g (call.report i channel) [] .answer .values) 0 0
-
 -- "every message still unacknowledged is sent and arrives, in any order": each that g still holds has arrived
 abbrev pub AllCame : ℕ → Gateway → ℕ → Past → Past → Type 0
 AllCame channel g i p q =
@@ -63,37 +60,42 @@ AllCame channel g i p q =
 abbrev pub outAt : (ℕ → List ℕ) → Gateway → ℕ → ℕ → List ℕ
 outAt outs h j channel = outs (receivingOf (lineAt h j) channel .next)
 
--- Hand-outs of a channel, one after the other, none of them refused.
-pub data HandsOut (j channel : ℕ) (outs : ℕ → List ℕ) : Gateway → Past → Gateway → Past → Type 0 where
-  done : {h : Gateway} {q : Past} → HandsOut j channel outs h q h q
-  next : {h h′ : Gateway} {q q′ : Past} → accepts (does h (call.handOut j channel) (outAt outs h j channel)) ≡ true
-      → HandsOut j channel outs (after h (call.handOut j channel) (outAt outs h j channel)) (handedPast q channel (given (does h (call.handOut j channel) (outAt outs h j channel)))) h′ q′
-      → HandsOut j channel outs h q h′ q′
-
 -- outputs in which every message has room
 abbrev pub Ample : (ℕ → List ℕ) → Type 0
 Ample outs = (n : ℕ) → largest ≤ length (outs n)
 
--- "all can be handed out": by some sequence of hand-outs, whatever outputs with room they are lent
-pub record AllOut (j channel : ℕ) (p : Past) (h : Gateway) (q : Past) (outs : ℕ → List ℕ) : Type 0 where
-  pub gateway : Gateway
-  pub past : Past
-  pub hands : HandsOut j channel outs h q gateway past
-  pub all : past .handed channel ≡ p .taken channel
+module _ (f : Does) where
+  -- "A report says how many messages are held there unacknowledged": what the call answers
+  abbrev pub reportBy : Gateway → ℕ → ℕ → ℕ
+  reportBy g i channel = getD (does f g (call.report i channel) [] .answer .values) 0 0
 
--- on both channels: the one end goes on, and the other stays as it is, until all is handed out
-pub record BothOut (i j identifier kind : ℕ) (g : Gateway) (p : Past) (h : Gateway) (q : Past) : Type 0 where
-  pub gateway : Gateway
-  pub past : Past
-  pub goes : Goes i j identifier kind g p h q g p gateway past
-  pub each : (channel : ℕ) → reliable channel ≡ true → past .handed channel ≡ p .taken channel
+  -- Hand-outs of a channel, one after the other, none of them refused.
+  pub data HandsOut (j channel : ℕ) (outs : ℕ → List ℕ) : Gateway → Past → Gateway → Past → Type 0 where
+    done : {h : Gateway} {q : Past} → HandsOut j channel outs h q h q
+    next : {h h′ : Gateway} {q q′ : Past} → accepts (does f h (call.handOut j channel) (outAt outs h j channel)) ≡ true
+        → HandsOut j channel outs (after f h (call.handOut j channel) (outAt outs h j channel)) (handedPast q channel (given (does f h (call.handOut j channel) (outAt outs h j channel)))) h′ q′
+        → HandsOut j channel outs h q h′ q′
 
--- The two can go on from where they are, with nothing more taken on the channel, until all that was taken there is handed out.
-pub record CanFinish (i j identifier kind channel : ℕ) (g : Gateway) (p : Past) (h : Gateway) (q : Past) : Type 0 where
-  pub here : Gateway
-  pub mine : Past
-  pub there : Gateway
-  pub yours : Past
-  pub goes : Goes i j identifier kind g p h q here mine there yours
-  pub same : mine .taken channel ≡ p .taken channel
-  pub all : yours .handed channel ≡ p .taken channel
+  -- "all can be handed out": by some sequence of hand-outs, whatever outputs with room they are lent
+  pub record AllOut (j channel : ℕ) (p : Past) (h : Gateway) (q : Past) (outs : ℕ → List ℕ) : Type 0 where
+    pub gateway : Gateway
+    pub past : Past
+    pub hands : HandsOut j channel outs h q gateway past
+    pub all : past .handed channel ≡ p .taken channel
+
+  -- The two can go on from where they are, with nothing more taken on the channel, until all that was taken there is handed out.
+  pub record CanFinish (i j identifier kind channel : ℕ) (g : Gateway) (p : Past) (h : Gateway) (q : Past) : Type 0 where
+    pub here : Gateway
+    pub mine : Past
+    pub there : Gateway
+    pub yours : Past
+    pub goes : Goes f i j identifier kind g p h q here mine there yours
+    pub same : mine .taken channel ≡ p .taken channel
+    pub all : yours .handed channel ≡ p .taken channel
+
+  -- on both channels: the one end goes on, and the other stays as it is, until all is handed out
+  pub record BothOut (i j identifier kind : ℕ) (g : Gateway) (p : Past) (h : Gateway) (q : Past) : Type 0 where
+    pub gateway : Gateway
+    pub past : Past
+    pub goes : Goes f i j identifier kind g p h q g p gateway past
+    pub each : (channel : ℕ) → reliable channel ≡ true → past .handed channel ≡ p .taken channel

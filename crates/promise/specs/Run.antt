@@ -1,4 +1,4 @@
--- Two gateways that open one line: the calls made at them, in any sequence, and what the promises assume of them.
+-- Two gateways that open one line: the calls made at them, in any sequence, and what the promises assume of them. `f` is what the calls of a build do.
 -- Assumes nothing.
 use Prim.Native.Nat.{ℕ, suc, _-_, _≤_, _<_}
 use mathlib.Core.Path.{_≡_}
@@ -18,22 +18,15 @@ use Rattle.book.specs.declared.Book.{Book}
 use Rattle.order.specs.Call.{Call}
 use Rattle.order.specs.Call as call
 use Rattle.order.specs.Order.{lineFor}
-use Rattle.gateway.specs.Did.{Did, did}
+use Rattle.gateway.specs.Did.{Did}
 use Rattle.flow.specs.Flow.{Message}
+use Rattle.promise.specs.Build.{Does}
 use Rattle.promise.specs.Past.{Mark, Packet, Past, nothingYet, justOpened, tookPast, handedPast, wrotePast, heardPast}
 
 -- a gateway: its book, and the store that is lent to its calls
 pub record Gateway : Type 0 where
   pub book : Book
   pub store : List ℕ
-
--- what a call does there; `out` is the output that it is lent
-abbrev pub does : Gateway → Call → List ℕ → Did
-does g c out = did c (g .book) (g .store) out
-
--- "their books and stores written by nothing else"
-abbrev pub after : Gateway → Call → List ℕ → Gateway
-after g c out = record { book = does g c out .book; store = does g c out .store }
 
 abbrev pub accepts : Did → Bool
 accepts d = eqb (d .answer .number) 0
@@ -102,46 +95,55 @@ Provided i g p q (call.empty _ channel) = Unit
 Provided i g p q (call.handOut _ channel) = Unit
 Provided i g p q (call.report _ channel) = Unit
 
--- What a call at line i of a gateway g adds to the past of the line; q is the peer's past.
-pub data Adds (i : ℕ) (g : Gateway) (p q : Past) (out : List ℕ) : Call → Past → Type 0 where
-  -- a call that is refused, or is for another line, adds nothing
-  refused : (c : Call) → accepts (does g c out) ≡ false → Adds i g p q out c p
-  elsewhere : (c : Call) → (lineFor c (g .book) ≡ i → ⊥) → Adds i g p q out c p
-  moded : (a : Act) → Adds i g p q out (call.mode i a) p
-  reported : (channel : ℕ) → Adds i g p q out (call.report i channel) p
-  -- the message taken is the call's octets, the one handed out is what was put into the output, a packet is the octets put there
-  took : (channel : ℕ) (m : Message) → accepts (does g (call.taking i channel m) out) ≡ true → Adds i g p q out (call.taking i channel m) (tookPast p channel m)
-  handed : (channel : ℕ) → accepts (does g (call.handOut i channel) out) ≡ true → Adds i g p q out (call.handOut i channel) (handedPast p channel (given (does g (call.handOut i channel) out)))
-  sent : (channel rank : ℕ) → accepts (does g (call.sending i channel rank) out) ≡ true → Adds i g p q out (call.sending i channel rank) (wrotePast p (sentPacket g p i channel rank (does g (call.sending i channel rank) out)))
-  wrote : (channel : ℕ) → accepts (does g (call.empty i channel) out) ≡ true → Adds i g p q out (call.empty i channel) (wrotePast p (emptyPacket g p i channel (does g (call.empty i channel) out)))
-  -- a packet arrives for the line in modem relay, whatever the answer
-  heard : (s : List ℕ) (k : Packet) → lineFor (call.arrival s) (g .book) ≡ i → Relays g i → Honest p q s k → Adds i g p q out (call.arrival s) (heardPast p k)
-
--- A step of one gateway, at its line i; q is the past of its peer.
-pub data Step (i identifier kind : ℕ) (q : Past) (g : Gateway) (p : Past) : Gateway → Past → Type 0 where
-  -- before the opening anything may be called
-  before : p .opened ≡ false → (c : Call) (out : List ℕ) → Step i identifier kind q g p (after g c out) p
-  -- "open a line with one identifier and payload type"
-  opens : p .opened ≡ false → (s : Settings) (time : ℕ) (out : List ℕ) → s .identifier ≡ identifier → s .kind ≡ kind
-      → accepts (does g (call.opening i s time) out) ≡ true → Step i identifier kind q g p (after g (call.opening i s time) out) justOpened
-  -- "keep it open and each stay in modem relay once there"
-  calls : p .opened ≡ true → (c : Call) (out : List ℕ) → lineAt (after g c out) i .opened ≡ true → (Relays g i → Relays (after g c out) i)
-      → {p′ : Past} → Adds i g p q out c p′ → Step i identifier kind q g p (after g c out) p′
-
--- Steps of the two from where they are, in any order: line i of the one, line j of the other.
-pub data Goes (i j identifier kind : ℕ) (g : Gateway) (p : Past) (h : Gateway) (q : Past) : Gateway → Past → Gateway → Past → Type 0 where
-  stay : Goes i j identifier kind g p h q g p h q
-  here : {g′ g″ h′ : Gateway} {p′ p″ q′ : Past} → Goes i j identifier kind g p h q g′ p′ h′ q′ → Step i identifier kind q′ g′ p′ g″ p″ → Goes i j identifier kind g p h q g″ p″ h′ q′
-  there : {g′ h′ h″ : Gateway} {p′ q′ q″ : Past} → Goes i j identifier kind g p h q g′ p′ h′ q′ → Step j identifier kind p′ h′ q′ h″ q″ → Goes i j identifier kind g p h q g′ p′ h″ q″
-
 -- a gateway whose book is fresh
 abbrev pub freshWith : List ℕ → Gateway
 freshWith store = record { book = freshBook; store = store }
 
--- "Take two fresh gateways": what comes of them and of the line. Lines are 0 to 3; a store has at least 42,240 octets, whatever they are.
-pub record Run (i j identifier kind : ℕ) (g : Gateway) (p : Past) (h : Gateway) (q : Past) : Type 0 where
-  pub first : List ℕ
-  pub second : List ℕ
-  pub lines : (i < 4) × (j < 4)
-  pub long : (42240 ≤ length first) × (42240 ≤ length second)
-  pub goes : Goes i j identifier kind (freshWith first) nothingYet (freshWith second) nothingYet g p h q
+module _ (f : Does) where
+  -- what a call does there; `out` is the output that it is lent
+  abbrev pub does : Gateway → Call → List ℕ → Did
+  does g c out = f c (g .book) (g .store) out
+
+  -- "their books and stores written by nothing else"
+  abbrev pub after : Gateway → Call → List ℕ → Gateway
+  after g c out = record { book = does g c out .book; store = does g c out .store }
+
+  -- What a call at line i of a gateway g adds to the past of the line; q is the peer's past.
+  pub data Adds (i : ℕ) (g : Gateway) (p q : Past) (out : List ℕ) : Call → Past → Type 0 where
+    -- a call that is refused, or is for another line, adds nothing
+    refused : (c : Call) → accepts (does g c out) ≡ false → Adds i g p q out c p
+    elsewhere : (c : Call) → (lineFor c (g .book) ≡ i → ⊥) → Adds i g p q out c p
+    moded : (a : Act) → Adds i g p q out (call.mode i a) p
+    reported : (channel : ℕ) → Adds i g p q out (call.report i channel) p
+    -- the message taken is the call's octets, the one handed out is what was put into the output, a packet is the octets put there
+    took : (channel : ℕ) (m : Message) → accepts (does g (call.taking i channel m) out) ≡ true → Adds i g p q out (call.taking i channel m) (tookPast p channel m)
+    handed : (channel : ℕ) → accepts (does g (call.handOut i channel) out) ≡ true → Adds i g p q out (call.handOut i channel) (handedPast p channel (given (does g (call.handOut i channel) out)))
+    sent : (channel rank : ℕ) → accepts (does g (call.sending i channel rank) out) ≡ true → Adds i g p q out (call.sending i channel rank) (wrotePast p (sentPacket g p i channel rank (does g (call.sending i channel rank) out)))
+    wrote : (channel : ℕ) → accepts (does g (call.empty i channel) out) ≡ true → Adds i g p q out (call.empty i channel) (wrotePast p (emptyPacket g p i channel (does g (call.empty i channel) out)))
+    -- a packet arrives for the line in modem relay, whatever the answer
+    heard : (s : List ℕ) (k : Packet) → lineFor (call.arrival s) (g .book) ≡ i → Relays g i → Honest p q s k → Adds i g p q out (call.arrival s) (heardPast p k)
+
+  -- A step of one gateway, at its line i; q is the past of its peer.
+  pub data Step (i identifier kind : ℕ) (q : Past) (g : Gateway) (p : Past) : Gateway → Past → Type 0 where
+    -- before the opening anything may be called
+    before : p .opened ≡ false → (c : Call) (out : List ℕ) → Step i identifier kind q g p (after g c out) p
+    -- "open a line with one identifier and payload type"
+    opens : p .opened ≡ false → (s : Settings) (time : ℕ) (out : List ℕ) → s .identifier ≡ identifier → s .kind ≡ kind
+        → accepts (does g (call.opening i s time) out) ≡ true → Step i identifier kind q g p (after g (call.opening i s time) out) justOpened
+    -- "keep it open and each stay in modem relay once there"
+    calls : p .opened ≡ true → (c : Call) (out : List ℕ) → lineAt (after g c out) i .opened ≡ true → (Relays g i → Relays (after g c out) i)
+        → {p′ : Past} → Adds i g p q out c p′ → Step i identifier kind q g p (after g c out) p′
+
+  -- Steps of the two from where they are, in any order: line i of the one, line j of the other.
+  pub data Goes (i j identifier kind : ℕ) (g : Gateway) (p : Past) (h : Gateway) (q : Past) : Gateway → Past → Gateway → Past → Type 0 where
+    stay : Goes i j identifier kind g p h q g p h q
+    here : {g′ g″ h′ : Gateway} {p′ p″ q′ : Past} → Goes i j identifier kind g p h q g′ p′ h′ q′ → Step i identifier kind q′ g′ p′ g″ p″ → Goes i j identifier kind g p h q g″ p″ h′ q′
+    there : {g′ h′ h″ : Gateway} {p′ q′ q″ : Past} → Goes i j identifier kind g p h q g′ p′ h′ q′ → Step j identifier kind p′ h′ q′ h″ q″ → Goes i j identifier kind g p h q g′ p′ h″ q″
+
+  -- "Take two fresh gateways": what comes of them and of the line. Lines are 0 to 3; a store has at least 42,240 octets, whatever they are.
+  pub record Run (i j identifier kind : ℕ) (g : Gateway) (p : Past) (h : Gateway) (q : Past) : Type 0 where
+    pub first : List ℕ
+    pub second : List ℕ
+    pub lines : (i < 4) × (j < 4)
+    pub long : (42240 ≤ length first) × (42240 ≤ length second)
+    pub goes : Goes i j identifier kind (freshWith first) nothingYet (freshWith second) nothingYet g p h q

@@ -1,0 +1,94 @@
+-- The idle builds that give a constant packet, or take the line from the caller, do not meet demand 2, and a count made up at will does not meet
+-- the report's rule: a line or two, computed, show it.
+-- Assumes nothing.
+use Prim.Native.Nat.{ℕ, _≤_}
+use mathlib.Core.Path.{_≡_, refl, sym, ap, _∙_}
+use mathlib.Core.Bool.{true}
+use mathlib.Core.List.{List, [], _∷_}
+use native.Mathlib.Omega.{arith}
+use lib.Dec.{lit≤, lit<}
+use lib.ListN.{length, replicate, getD}
+use Rattle.ground.specs.Answer.{Answer}
+use Rattle.ground.specs.Every.{every}
+use Rattle.field.specs.Bits.{bitsAt}
+use Rattle.packet.specs.Acks.{acksServed}
+use Rattle.packet.specs.Read.{headAt, numberAt, baseAt, acksAt, ackAt, payloadOf}
+use Rattle.packet.specs.Read as packet
+use Rattle.packet.specs.declared.Head.{Head}
+use Rattle.channel.specs.Sending.{tookOne, sendingFits}
+use Rattle.channel.specs.Receiving.{receivingFits}
+use Rattle.channel.specs.Sizes as sizes
+use Rattle.owed.specs.Owed.{member, noTwice, allSpans, owedFits}
+use Rattle.mode.specs.Fit.{modesFit}
+use Rattle.mode.specs.Given.{modem}
+use Rattle.mode.specs.Moved.{channelsFor, timed, moved}
+use Rattle.mode.specs.Request.{asking}
+use Rattle.mode.specs.Acts.{ask}
+use Rattle.line.specs.Fit.{lineFits}
+use Rattle.line.specs.Mode.{steppedTo}
+use Rattle.line.specs.declared.Settings.{Settings}
+use Rattle.store.specs.Store.{regionOf}
+use Rattle.relay.specs.Asked.{relayTests}
+use Rattle.relay.specs.Take.{takeCallTests}
+use Rattle.arriving.specs.Arrive.{arriveTests}
+use Rattle.book.specs.Book.{freshBook, openIn, linesFit, allSpan, bookFits, whoseFrom}
+use Rattle.order.specs.Call.{Call}
+use Rattle.order.specs.Call as call
+use Rattle.order.specs.Order.{openTests, modeTests, addressTests, arrivalTests, lineFor, tests}
+use Rattle.gateway.specs.Did.{did, done, effect}
+use Rattle.laws.specs.Reached.{Turn, reach}
+use Rattle.laws.proofs.Identifiers.{reached-passes}
+use Rattle.promise.specs.Run.{Gateway, lineAt}
+use Rattle.promise.specs.Demand2.{Ready, Demand2}
+use Rattle.promise.specs.Report.{heldFrom, Reports}
+use Rattle.promise.specs.Idle.{constantPacket, callersLine, madeUp}
+
+-- a store of 42,240 octets, and a line with an identifier
+abbrev pub zeros : List ℕ
+zeros = replicate 42240 0
+
+abbrev pub named : ℕ → Settings
+named identifier = record { identifier = identifier; kind = 98; vbd = true; relay = true }
+
+-- what calls leave of a fresh gateway
+abbrev called : List Turn → Gateway
+called ts = let t = reach freshBook zeros ts in record { book = t .book; store = t .store }
+
+ready : (ts : List Turn) → lineAt (called ts) 0 .opened ≡ true → 42240 ≤ length (called ts .store) → Ready (called ts) 0
+ready ts e l = let k = reached-passes ts zeros in record { fits = k .0; shaped = k .1; long = l; small = lit< tt; opened = e }
+
+abbrev turn : Call → Turn
+turn c = record { call = c; out = [] }
+
+-- line 0 is opened, and a request brings it into modem relay
+abbrev turns : ℕ → List Turn
+turns identifier = turn (call.opening 0 (named identifier) 0) ∷ turn (call.mode 0 (ask modem 0)) ∷ []
+
+abbrev there : ℕ → Gateway
+there identifier = called (turns identifier)
+
+-- the packets of two lines do not say the same
+pub constant-packet-fails : (s : List ℕ) → Demand2 (constantPacket s) → ⊥
+unfolding reach did done effect tests lineFor openTests modeTests bookFits linesFit allSpan openIn lineFits member noTwice allSpans owedFits modesFit sendingFits receivingFits sizes.sizesFit every asking moved timed channelsFor steppedTo
+constant-packet-fails s d =
+    let one = d .empty-back (there 5) 0 (ready (turns 5) refl (lit≤ tt)) refl 0 (lit≤ tt) (replicate 12 0) (lit≤ tt) .1 .head-back in
+    let other = d .empty-back (there 6) 0 (ready (turns 6) refl (lit≤ tt)) refl 0 (lit≤ tt) (replicate 12 0) (lit≤ tt) .1 .head-back in
+    let n : _≡_ {A = ℕ} 5 6 = ap (λ (h : Head). h .identifier) (sym one ∙ other) in
+    omega (arith, n)
+
+-- a packet for identifier 6 is accepted at the line of identifier 5
+pub callers-line-fails : Demand2 callersLine → ⊥
+unfolding reach did done effect tests lineFor openTests modeTests bookFits linesFit allSpan openIn lineFits member noTwice allSpans owedFits modesFit sendingFits receivingFits sizes.sizesFit every asking moved timed channelsFor steppedTo arrivalTests addressTests arriveTests whoseFrom headAt numberAt baseAt acksAt ackAt acksServed payloadOf packet.sizeFits bitsAt
+callers-line-fails d =
+    let n : _≡_ {A = ℕ} 5 6 = d .inside (there 5) (6 ∷ 98 ∷ 0 ∷ 0 ∷ 0 ∷ 0 ∷ []) [] refl .named in
+    omega (arith, n)
+
+-- of no message and of one the report says not the same
+pub made-up-fails : (n : ℕ) → Reports (madeUp n) → ⊥
+unfolding reach did done effect tests lineFor openTests modeTests bookFits linesFit allSpan openIn lineFits member noTwice allSpans owedFits modesFit sendingFits receivingFits sizes.sizesFit every asking moved timed channelsFor steppedTo takeCallTests relayTests tookOne regionOf heldFrom
+made-up-fails n d =
+    let ts : List Turn = turn (call.opening 0 (named 5) 0) ∷ turn (call.mode 0 (ask modem 0)) ∷ turn (call.taking 0 1 (7 ∷ [])) ∷ [] in
+    let none = d .exact (there 5) 0 (ready (turns 5) refl (lit≤ tt)) refl 1 refl [] in
+    let one = d .exact (called ts) 0 (ready ts refl (lit≤ tt)) refl 1 refl [] in
+    let e : _≡_ {A = ℕ} 0 1 = ap (λ (a : Answer). getD (a .values) 0 0) (sym none ∙ one) in
+    omega (arith, e)

@@ -1,0 +1,125 @@
+-- DEMAND 2, asked of any build: bodies, slips and packets are written where they may be and read back, no relay packet is accepted outside modem
+-- relay, and the media modes move as Annex C permits.
+-- Assumes nothing.
+use Prim.Native.Nat.{ℕ, _%_, _≤_, _<_}
+use mathlib.Core.Path.{_≡_}
+use mathlib.Core.Bool.{true}
+use mathlib.Core.List.{List, [], _∷_}
+use lib.ListN.{length, take, getD}
+use Rattle.ground.specs.Answer.{Answer, accepted}
+use Rattle.ground.specs.Pick.{bit}
+use Rattle.ground.specs.Refusal.{verdict}
+use Rattle.ground.specs.declared.Verdict.the-variants.{Pass}
+use Rattle.packet.specs.Read.{headAt, acksAt, payloadOf, headTests, listTests}
+use Rattle.packet.specs.Write.{packetOctets}
+use Rattle.packet.specs.declared.Head.{Head}
+use Rattle.packet.specs.declared.Acks.{Acks}
+use Rattle.connect.specs.Read.{connectAt}
+use Rattle.connect.specs.Read as connect
+use Rattle.connect.specs.Write as body
+use Rattle.connect.specs.declared.Connect.{Connect}
+use Rattle.connect.specs.declared.Reading.the-variants as connectReading
+use Rattle.breaks.specs.Break.{breakAt}
+use Rattle.breaks.specs.Break as breaks
+use Rattle.breaks.specs.declared.Break.{Break}
+use Rattle.breaks.specs.declared.Reading.the-variants as breakReading
+use Rattle.channel.specs.Channel.{modulus}
+use Rattle.channel.specs.Sending.{heldCount}
+use Rattle.channel.specs.declared.sending.Held.{Held}
+use Rattle.mode.specs.Given.{modem}
+use Rattle.mode.specs.Moved.{ended}
+use Rattle.mode.specs.Indication.{hearTests, heardMode}
+use Rattle.mode.specs.Request.{askTests}
+use Rattle.mode.specs.TableC2.{permitted}
+use Rattle.mode.specs.Acts.{Act, hear, ask}
+use Rattle.mode.specs.declared.Modes.{Modes}
+use Rattle.line.specs.Line.{sendingOf}
+use Rattle.line.specs.declared.Line.{Line}
+use Rattle.store.specs.Store.{regionOf, octetsIn}
+use Rattle.store.specs.declared.Way.the-variants as way
+use Rattle.relay.specs.Asked.{reliable}
+use Rattle.writing.specs.Write.{acksFor, headFor}
+use Rattle.writing.specs.Send.{ranked, heldIn}
+use Rattle.book.specs.Book.{bookFits}
+use Rattle.book.specs.Shape.{BookShaped}
+use Rattle.order.specs.Call as call
+use Rattle.gateway.specs.Did.{Did}
+use Rattle.promise.specs.Build.{Left, Build}
+use Rattle.promise.specs.Run.{Gateway, does, after, accepts, given, lineAt, Relays}
+
+-- "What we write reads back as the values we wrote": the body is written, and what is written reads as the answer
+pub record Back (w : Left) (read : List ℕ → Answer) (says : Answer) : Type 0 where
+  pub written : w .answer .number ≡ 0
+  pub reads : read (take (getD (w .answer .values) 0 0) (w .out)) ≡ says
+
+-- a packet: its octets, most significant first, and what they say
+pub record Says (s : List ℕ) (head : Head) (acks : Acks) (payload : List ℕ) : Type 0 where
+  pub octets : s ≡ packetOctets head acks payload
+  pub plain : verdict (headTests s) ≡ Pass
+  pub listed : verdict (listTests s) ≡ Pass
+  pub head-back : headAt s ≡ head
+  pub acks-back : acksAt s ≡ acks
+  pub payload-back : payloadOf s ≡ payload
+
+-- a packet that is written
+abbrev pub Writes : Did → Head → Acks → List ℕ → Type 0
+Writes d head acks payload = (accepts d ≡ true) × Says (given d) head acks payload
+
+-- a book that BOOK lets pass, its arrays as long as declared, with line i open; and a store
+pub record Ready (g : Gateway) (i : ℕ) : Type 0 where
+  pub fits : bookFits (g .book) ≡ true
+  pub shaped : BookShaped (g .book)
+  pub long : 42240 ≤ length (g .store)
+  pub small : i < 4
+  pub opened : lineAt g i .opened ≡ true
+
+-- the message that a rank names, and its octets
+abbrev pub heldBy : Gateway → ℕ → ℕ → ℕ → Held
+heldBy g i channel rank = heldIn (ranked (lineAt g i) channel rank)
+
+abbrev pub octetsBy : Gateway → ℕ → ℕ → Held → List ℕ
+octetsBy g i channel m = octetsIn (g .store) (regionOf i way.Sending channel) (m .place) (m .size)
+
+-- the line is the packet's, and in modem relay
+pub record Entitled (l : Line) (s : List ℕ) : Type 0 where
+  pub opened : l .opened ≡ true
+  pub inside : l .modes .local ≡ modem
+  pub named : l .identifier ≡ headAt s .identifier
+  pub typed : l .kind ≡ headAt s .kind
+
+-- modem relay was left for good
+abbrev pub Gone : Modes → Type 0
+Gone m = (m .left ≡ true) × (m .local ≡ modem → ⊥)
+
+pub record Demand2 (b : Build) : Type 0 where
+  -- every body that may be written is, and reads back; every body that may be read says what stands at its places
+  pub connect-back : (c : Connect) (out : List ℕ) → verdict (body.writeTests c (length out)) ≡ Pass → Back (b .connectWrite c out) (b .connectRead) (connect.answerOf (connectReading.Says c))
+  pub connect-read : (s : List ℕ) → verdict (connect.readTests s) ≡ Pass → b .connectRead s ≡ connect.answerOf (connectReading.Says (connectAt s))
+  pub break-back : (c : Break) (out : List ℕ) → verdict (breaks.writeTests c (length out)) ≡ Pass → Back (b .breakWrite c out) (b .breakRead) (breaks.answerOf (breakReading.Says c))
+  pub break-read : (s : List ℕ) → verdict (breaks.readTests s) ≡ Pass → b .breakRead s ≡ breaks.answerOf (breakReading.Says (breakAt s))
+  -- "Closing writes a slip", and "Slips are also read back"
+  pub slip-back : (g : Gateway) (i : ℕ) → Ready g i → (out : List ℕ) → 12 ≤ length out
+      → let l = lineAt g i in
+      (accepts (does (b .does) g (call.closing i) out) ≡ true)
+      × (b .slipRead (given (does (b .does) g (call.closing i) out))
+      ≡ accepted (l .identifier ∷ l .kind ∷ l .receiving1 .next ∷ l .receiving2 .next ∷ bit (ended (l .modes)) ∷ []))
+  -- every message that the line holds is written, and so is an empty packet
+  pub sending-back : (g : Gateway) (i : ℕ) → Ready g i → Relays g i → (channel : ℕ) → reliable channel ≡ true → (rank : ℕ) → rank < heldCount (sendingOf (lineAt g i) channel)
+      → (out : List ℕ) → 144 ≤ length out
+      → let m = heldBy g i channel rank in
+      Writes (does (b .does) g (call.sending i channel rank) out) (headFor (lineAt g i) channel (m .number % modulus)) (acksFor (lineAt g i)) (octetsBy g i channel m)
+  pub empty-back : (g : Gateway) (i : ℕ) → Ready g i → Relays g i → (channel : ℕ) → channel ≤ 2 → (out : List ℕ) → 12 ≤ length out
+      → Writes (does (b .does) g (call.empty i channel) out) (headFor (lineAt g i) channel 0) (acksFor (lineAt g i)) []
+  -- "No relay packet is accepted outside modem relay": the answer names the line
+  pub inside : (g : Gateway) (s out : List ℕ) → accepts (does (b .does) g (call.arrival s) out) ≡ true
+      → Entitled (lineAt g (getD (does (b .does) g (call.arrival s) out .answer .values) 0 0)) s
+  -- an indication that may be heard is, S is what the paper chooses, and Table C.2 permits it; a request names S
+  pub hears : (g : Gateway) (i : ℕ) → Ready g i → (k time : ℕ) → verdict (hearTests (lineAt g i .modes) k time) ≡ Pass → (out : List ℕ)
+      → (accepts (does (b .does) g (call.mode i (hear k time)) out) ≡ true)
+      × (lineAt (after (b .does) g (call.mode i (hear k time)) out) i .modes .local ≡ heardMode (lineAt g i .modes) k)
+      × (permitted k (lineAt (after (b .does) g (call.mode i (hear k time)) out) i .modes .local) ≡ true)
+  pub asks : (g : Gateway) (i : ℕ) → Ready g i → (k time : ℕ) → verdict (askTests (lineAt g i .modes) k time) ≡ Pass → (out : List ℕ)
+      → (accepts (does (b .does) g (call.mode i (ask k time)) out) ≡ true) × (lineAt (after (b .does) g (call.mode i (ask k time)) out) i .modes .local ≡ k)
+  -- "Leaving m, for any cause, ends relay for that opening"
+  pub leaves : (g : Gateway) (i : ℕ) → Ready g i → (a : Act) (out : List ℕ)
+      → let m = lineAt (after (b .does) g (call.mode i a) out) i .modes in (Relays g i → (m .local ≡ modem → ⊥) → Gone m) × (Gone (lineAt g i .modes) → Gone m)

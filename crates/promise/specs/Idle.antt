@@ -1,0 +1,142 @@
+-- IDLE BUILDS: what a quick or empty build would do, written down as builds. Each is shown to fail a demand. Of document 01's 'Errors a quick build
+-- makes' one is not here, as no demand excludes it: a repeat that goes unacknowledged. It is the exact contract of an arrival that does.
+-- Assumes nothing.
+use Prim.Native.Nat.{ℕ}
+use mathlib.Core.List.{List, [], _∷_, _++_}
+use lib.Dec.{eqb}
+use lib.ListN.{length, drop, getD}
+use Rattle.ground.specs.Answer.{accepted, refused}
+use Rattle.ground.specs.Pick.{pick}
+use Rattle.ground.specs.declared.Refusal.{Refusal}
+use Rattle.packet.specs.Read.{headAt}
+use Rattle.places.specs.Places.{maskOf, rankOf}
+use Rattle.places.specs.declared.Place.{Place}
+use Rattle.places.specs.declared.Place.the-variants.{At, Missing}
+use Rattle.channel.specs.Sending.{underWay, movedBy}
+use Rattle.channel.specs.declared.sending.Sending.{Sending}
+use Rattle.line.specs.Line.{withSides}
+use Rattle.line.specs.declared.Line.{Line}
+use Rattle.book.specs.Book.{lineOf, withLine, openIn}
+use Rattle.book.specs.declared.Book.{Book}
+use Rattle.order.specs.Call as call
+use Rattle.order.specs.Order.{lineFor}
+use Rattle.gateway.specs.Did.{Did, made, did}
+use Rattle.promise.specs.Build.{Does, Left, Build, ours}
+
+-- "one refusing everything", with whatever number
+abbrev pub refuser : Refusal → Build
+refuser r =
+    record {
+      does = λ c b store out. made (refused r) b store out;
+      connectRead = λ s. refused r;
+      connectWrite = λ c out. record { answer = refused r; out = out };
+      breakRead = λ s. refused r;
+      breakWrite = λ c out. record { answer = refused r; out = out };
+      slipRead = λ s. refused r;
+    }
+
+-- "one giving a constant .. body", whatever it is
+abbrev pub constantBody : Left → Build
+constantBody w =
+    record { does = did; connectRead = ours .connectRead; connectWrite = λ c out. w; breakRead = ours .breakRead; breakWrite = λ c out. w; slipRead = ours .slipRead }
+
+-- ours, but for what the calls do
+abbrev pub doing : Does → Build
+doing f =
+    record { does = f; connectRead = ours .connectRead; connectWrite = ours .connectWrite; breakRead = ours .breakRead; breakWrite = ours .breakWrite; slipRead = ours .slipRead }
+
+-- what a packet that arrives does
+abbrev pub Arrives : Type 0
+Arrives = List ℕ → Book → List ℕ → List ℕ → Did
+
+-- ours, but for what is done where a packet is written, a message taken, a packet arrives or a report is asked for
+abbrev pub instead : Does → Does → Arrives → Does → Does
+instead writes takes arrives reports (call.opening i s time) = did (call.opening i s time)
+instead writes takes arrives reports (call.closing i) = did (call.closing i)
+instead writes takes arrives reports (call.mode i a) = did (call.mode i a)
+instead writes takes arrives reports (call.taking i channel m) = takes (call.taking i channel m)
+instead writes takes arrives reports (call.sending i channel rank) = writes (call.sending i channel rank)
+instead writes takes arrives reports (call.empty i channel) = writes (call.empty i channel)
+instead writes takes arrives reports (call.arrival s) = arrives s
+instead writes takes arrives reports (call.handOut i channel) = did (call.handOut i channel)
+instead writes takes arrives reports (call.report i channel) = reports (call.report i channel)
+
+abbrev pub lets : Arrives
+lets s = did (call.arrival s)
+
+abbrev pub arriving : Arrives → Does
+arriving a = instead did did a did
+
+-- "one giving a constant packet": every packet written is s
+abbrev pub constantPacket : List ℕ → Build
+constantPacket s = doing (instead (λ c b store out. made (accepted (length s ∷ [])) b store (s ++ drop (length s) out)) did lets did)
+
+-- "one storing nothing": what ours accepts is accepted, and leaves nothing
+abbrev pub forgets : Does
+forgets c b store out = made (did c b store out .answer) b store out
+
+-- of messages taken
+abbrev pub holdsNothing : Build
+holdsNothing = doing (instead did forgets lets did)
+
+-- of packets that arrive
+abbrev pub loses : Arrives
+loses s = forgets (call.arrival s)
+
+abbrev pub storesNothing : Build
+storesNothing = doing (arriving loses)
+
+-- the line as the packet leaves it, but with nothing received
+abbrev unread : Line → Line → Line
+unread old new =
+    record {
+      opened = new .opened;
+      identifier = new .identifier;
+      kind = new .kind;
+      modes = new .modes;
+      sending1 = new .sending1;
+      sending2 = new .sending2;
+      receiving1 = old .receiving1;
+      receiving2 = old .receiving2;
+      owed = new .owed;
+    }
+
+-- "one serving only the first message and acknowledging the later ones unread"
+abbrev pub skips : Arrives
+skips s b store out =
+    let d = did (call.arrival s) b store out in
+    let i = lineFor (call.arrival s) b in
+    pick (eqb (headAt s .number) 0) d (made (d .answer) (withLine b i (unread (lineOf b i) (lineOf (d .book) i))) store out)
+
+abbrev pub firstOnly : Build
+firstOnly = doing (arriving skips)
+
+-- "Taking the line from the caller and not from the packet's identifier": the packet goes to the first open line
+abbrev pub misleads : Arrives
+misleads s b store out = did (call.arrival (getD (openIn (b .lines)) 0 0 ∷ drop 1 s)) b store out
+
+abbrev pub callersLine : Build
+callersLine = doing (arriving misleads)
+
+-- "A held count made up at will"
+abbrev pub madeUp : ℕ → Build
+madeUp n = doing (instead did did lets (λ c b store out. made (accepted (n ∷ [])) b store out))
+
+-- "Freeing send room on acknowledgement alone": h moves on to the oldest message that is not acknowledged
+abbrev pastAcked : ℕ → Sending → Place → Sending
+pastAcked w s (At d) = movedBy w s d
+pastAcked w s Missing = movedBy w s (underWay s)
+
+abbrev freed : Line → Line
+freed l =
+    withSides l (pastAcked 32 (l .sending1) (rankOf (maskOf (l .sending1 .unacked)) 0)) (pastAcked 8 (l .sending2) (rankOf (maskOf (l .sending2 .unacked)) 0))
+    (l .receiving1) (l .receiving2)
+
+abbrev pub frees : Arrives
+frees s b store out =
+    let d = did (call.arrival s) b store out in
+    let i = lineFor (call.arrival s) b in
+    made (d .answer) (withLine (d .book) i (freed (lineOf (d .book) i))) (d .store) out
+
+abbrev pub freesOnAck : Build
+freesOnAck = doing (arriving frees)
