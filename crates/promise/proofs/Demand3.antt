@@ -20,14 +20,14 @@ use Rattle.order.specs.Order.{lineFor}
 use Rattle.gateway.specs.Did.{did, effect}
 use Rattle.laws.proofs.Own.{own-values}
 use Rattle.promise.specs.Build.{ours}
-use Rattle.promise.specs.Past.{Packet, Past, tookPast, wrotePast, heardPast}
+use Rattle.promise.specs.Past.{Packet, Past, tookPast, handedPast, wrotePast, heardPast}
 use Rattle.promise.specs.Run.{Gateway, accepts, lineAt, rankedMark, Honest, stay, here, there}
 use Rattle.promise.specs.Promise.{sendsBy, receivesBy, Carried, Promised, InRelay, AllCame, Ample}
 use Rattle.promise.specs.Ours.{does, after, Goes, Run, reportBy, HandsOut, AllOut, CanFinish}
 use Rattle.promise.specs.Demand3.{Serves, Served, Demand3}
 use Rattle.promise.proofs.Ends.{End, turn}
 use Rattle.promise.proofs.Phases.{is-open}
-use Rattle.promise.proofs.Calls.{LeftIn, took-kept, sent-kept, wrote-kept}
+use Rattle.promise.proofs.Calls.{LeftIn, took-kept, handed-kept, sent-kept, wrote-kept}
 use Rattle.promise.proofs.Begins.{begins}
 use Rattle.promise.proofs.Promised as line
 use Rattle.promise.proofs.Own.{Passes, call-passes, call-accepted}
@@ -141,6 +141,9 @@ all-served {i} {g = g} {p = p} r a =
       empties = λ channel c out room.
           let pass = empty-passes s a (k .joined) out channel c room in
           serves {p = wrotePast p _} (call.empty i channel) out pass o (wrote-kept s o (k .joined) out channel pass);
+      hands = λ channel v full out room.
+      let pass = hand-passes s a (k .joined) out channel v full room in
+      serves {p = handedPast p channel _} (call.handOut i channel) out pass o (handed-kept s o (k .joined) out channel pass);
       arrives = λ x packet honest out. (
         arrives-here s (k .yours) o (k .joined) x packet (a .1) honest out,
         serves {p = heardPast p packet} (call.arrival x) out (arrival-tests s (k .yours) o (k .joined) x packet (a .1) honest out) o (heard-kept s (k .yours) o (k .joined) x packet (a .1) honest out),
