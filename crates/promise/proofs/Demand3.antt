@@ -20,15 +20,16 @@ use Rattle.order.specs.Call as call
 use Rattle.order.specs.Order.{lineFor}
 use Rattle.gateway.specs.Did.{did, effect}
 use Rattle.laws.proofs.Own.{own-values}
-use Rattle.promise.specs.Build.{ours}
-use Rattle.promise.specs.Past.{Packet, Past, tookPast, wrotePast, heardPast}
+use Rattle.promise.specs.Build.{Does, ours}
+use Rattle.promise.specs.Past.{Packet, Past, tookPast, handedPast, wrotePast, heardPast}
 use Rattle.promise.specs.Run.{Gateway, accepts, lineAt, Relays, rankedMark, Honest, Provided, calls, stay, here, there}
+use Rattle.promise.specs.Run as runs
 use Rattle.promise.specs.Promise.{sendsBy, receivesBy, Carried, Promised, InRelay, AllCame, Ample}
 use Rattle.promise.specs.Ours.{does, after, Goes, Run, reportBy, HandsOut, AllOut, BothOut, CanFinish}
 use Rattle.promise.specs.Demand3.{Serves, Served, Demand3}
 use Rattle.promise.proofs.Ends.{End, turn}
 use Rattle.promise.proofs.Phases.{is-open}
-use Rattle.promise.proofs.Calls.{LeftIn, took-kept, sent-kept, wrote-kept}
+use Rattle.promise.proofs.Calls.{LeftIn, took-kept, handed-kept, sent-kept, wrote-kept}
 use Rattle.promise.proofs.Begins.{begins}
 use Rattle.promise.proofs.Promised as line
 use Rattle.promise.proofs.Own.{Passes, call-passes, call-accepted}
@@ -39,12 +40,13 @@ use Rattle.promise.proofs.Drains.{drains, hands-go, hands-keep}
 use Rattle.promise.proofs.Finish.{finishes}
 
 -- each way is the other seen from the other end
-turned-goes : {i j identifier kind : ℕ} {g g′ h h′ : Gateway} {p p′ q q′ : Past} → Goes i j identifier kind g p h q g′ p′ h′ q′ → Goes j i identifier kind h q g p h′ q′ g′ p′
+turned-goes : {f : Does} {i j identifier kind : ℕ} {g g′ h h′ : Gateway} {p p′ q q′ : Past} → runs.Goes f i j identifier kind g p h q g′ p′ h′ q′
+    → runs.Goes f j i identifier kind h q g p h′ q′ g′ p′
 turned-goes stay = stay
 turned-goes (here w s) = there (turned-goes w) s
 turned-goes (there w s) = here (turned-goes w) s
 
-pub turned-run : {i j identifier kind : ℕ} {g h : Gateway} {p q : Past} → Run i j identifier kind g p h q → Run j i identifier kind h q g p
+pub turned-run : {f : Does} {i j identifier kind : ℕ} {g h : Gateway} {p q : Past} → runs.Run f i j identifier kind g p h q → runs.Run f j i identifier kind h q g p
 turned-run r = record { first = r .second; second = r .first; lines = (r .lines .1, r .lines .0); long = (r .long .1, r .long .0); goes = turned-goes (r .goes) }
 
 module _ {i j identifier kind : ℕ} {g h : Gateway} {p q : Past} (r : Run i j identifier kind g p h q) where
@@ -175,6 +177,9 @@ all-served {i} {g = g} {p = p} r a =
       empties = λ channel c out room.
           let pass = empty-passes s a (k .joined) out channel c room in
           serves {p = wrotePast p _} (call.empty i channel) out pass o (wrote-kept s o (k .joined) out channel pass);
+      hands = λ channel v full out room.
+          let pass = hand-passes s a (k .joined) out channel v full room in
+          serves {p = handedPast p channel _} (call.handOut i channel) out pass o (handed-kept s o (k .joined) out channel pass);
       arrives = λ x packet honest out. (
         arrives-here s (k .yours) o (k .joined) x packet (a .1) honest out,
         serves {p = heardPast p packet} (call.arrival x) out (arrival-tests s (k .yours) o (k .joined) x packet (a .1) honest out) o (heard-kept s (k .yours) o (k .joined) x packet (a .1) honest out),

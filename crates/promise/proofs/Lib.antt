@@ -31,3 +31,7 @@ pub mod Idle
 pub mod IdlePackets
 pub mod IdleRuns
 pub mod IdleRoom
+pub mod Twins
+pub mod Rounds
+pub mod Answered
+pub mod IdleSize

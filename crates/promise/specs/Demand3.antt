@@ -19,7 +19,7 @@ use Rattle.order.specs.Order.{lineFor}
 use Rattle.promise.specs.Build.{Does, Build}
 use Rattle.promise.specs.Past.{Packet, Past}
 use Rattle.promise.specs.Run.{Gateway, freshWith, does, after, accepts, lineAt, Relays, rankedMark, Honest, Run}
-use Rattle.promise.specs.Promise.{sendsBy, Promised, InRelay, AllCame, Ample, reportBy, AllOut, CanFinish}
+use Rattle.promise.specs.Promise.{sendsBy, receivesBy, Promised, InRelay, AllCame, Ample, reportBy, AllOut, CanFinish}
 
 -- the call is accepted, and leaves line i open and in modem relay
 pub record Serves (f : Does) (g : Gateway) (i : ℕ) (c : Call) (out : List ℕ) : Type 0 where
@@ -43,6 +43,9 @@ module _ (f : Does) (i j identifier kind : ℕ) (g : Gateway) (p : Past) (h : Ga
         → (rank : ℕ) × (rank < reportBy f g i channel) × (rankedMark g i channel rank .number ≡ n)
     pub sends : (channel : ℕ) → reliable channel ≡ true → (rank : ℕ) → rank < reportBy f g i channel → (out : List ℕ) → 144 ≤ length out → Serves f g i (call.sending i channel rank) out
     pub empties : (channel : ℕ) → channel ≤ 2 → (out : List ℕ) → 12 ≤ length out → Serves f g i (call.empty i channel) out
+    -- message R is handed out where it is stored
+    pub hands : (channel : ℕ) → reliable channel ≡ true → Full (receivesBy g i p channel .stored (receivesBy g i p channel .R)) → (out : List ℕ) → largest ≤ length out
+        → Serves f g i (call.handOut i channel) out
     -- every packet that the premise speaks of finds the line and is let in
     pub arrives : (s : List ℕ) (packet : Packet) → Honest p q s packet → (out : List ℕ) → (lineFor (call.arrival s) (g .book) ≡ i) × Serves f g i (call.arrival s) out
 

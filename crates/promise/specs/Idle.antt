@@ -2,8 +2,9 @@
 -- makes' one is not here, as no demand excludes it: a repeat that goes unacknowledged. It is the exact contract of an arrival that does.
 -- Assumes nothing.
 use Prim.Native.Nat.{ℕ}
+use mathlib.Core.Bool.{Bool}
 use mathlib.Core.List.{List, [], _∷_, _++_}
-use lib.Dec.{eqb}
+use lib.Dec.{eqb, ltb}
 use lib.ListN.{length, drop, getD}
 use Rattle.ground.specs.Answer.{accepted, refused}
 use Rattle.ground.specs.Pick.{pick}
@@ -14,7 +15,7 @@ use Rattle.places.specs.declared.Place.{Place}
 use Rattle.places.specs.declared.Place.the-variants.{At, Missing}
 use Rattle.channel.specs.Sending.{underWay, movedBy}
 use Rattle.channel.specs.declared.sending.Sending.{Sending}
-use Rattle.line.specs.Line.{withSides}
+use Rattle.line.specs.Line.{receivingOf, withSides}
 use Rattle.line.specs.declared.Line.{Line}
 use Rattle.book.specs.Book.{lineOf, withLine, openIn}
 use Rattle.book.specs.declared.Book.{Book}
@@ -87,7 +88,7 @@ abbrev pub storesNothing : Build
 storesNothing = doing (arriving loses)
 
 -- the line as the packet leaves it, but with nothing received
-abbrev unread : Line → Line → Line
+abbrev pub unread : Line → Line → Line
 unread old new =
     record {
       opened = new .opened;
@@ -101,12 +102,16 @@ unread old new =
       owed = new .owed;
     }
 
--- "one serving only the first message and acknowledging the later ones unread"
-abbrev pub skips : Arrives
-skips s b store out =
+-- the packet's message is acknowledged and not stored
+abbrev pub ignored : Arrives
+ignored s b store out =
     let d = did (call.arrival s) b store out in
     let i = lineFor (call.arrival s) b in
-    pick (eqb (headAt s .number) 0) d (made (d .answer) (withLine b i (unread (lineOf b i) (lineOf (d .book) i))) store out)
+    made (d .answer) (withLine b i (unread (lineOf b i) (lineOf (d .book) i))) store out
+
+-- "one serving only the first message and acknowledging the later ones unread"
+abbrev pub skips : Arrives
+skips s b store out = pick (eqb (headAt s .number) 0) (did (call.arrival s) b store out) (ignored s b store out)
 
 abbrev pub firstOnly : Build
 firstOnly = doing (arriving skips)
@@ -140,3 +145,16 @@ frees s b store out =
 
 abbrev pub freesOnAck : Build
 freesOnAck = doing (arriving frees)
+
+-- "Comparing sequence numbers by size": a message whose number is below R is an old one
+abbrev pub expected : List ℕ → Book → ℕ
+expected s b = receivingOf (lineOf b (lineFor (call.arrival s) b)) (headAt s .channel) .next
+
+abbrev pub isOlder : List ℕ → Book → Bool
+isOlder s b = ltb (headAt s .number) (expected s b)
+
+abbrev pub older : Arrives
+older s b store out = pick (isOlder s b) (ignored s b store out) (did (call.arrival s) b store out)
+
+abbrev pub bySize : Build
+bySize = doing (arriving older)
