@@ -3,7 +3,7 @@
 ghost use mathlib.Core.Path.{_≡_};
 ghost use Prim.Native.Nat.{_≤_, _<_};
 ghost use lib.ListN.{length};
-ghost use Rattle.words.specs.Words.{Within};
+ghost use Rattle.words.specs.Words.{Within, longerBy, numberOf};
 
 mod answer; // answer.rt: the words of an answer
 mod asked; // asked.rt: the words that a call asks for, all at once
@@ -97,7 +97,9 @@ pub fn same(word: &[u8], name: &[u8]) -> bool {
 }
 
 // The number with one digit more, or that it is too large for 64 bits or that the octet is no digit.
-fn longer(n: u64, octet: u8) -> Number {
+fn longer(n: u64, octet: u8) -> Number
+    ensures { λ r. ⌜ r ≡ longerBy n octet ⌝ }
+{
     if octet < b'0' {
         return Number::Nothing;
     }
@@ -115,7 +117,9 @@ fn longer(n: u64, octet: u8) -> Number {
 }
 
 // A number: decimal digits, with no sign. Leading zeros are accepted.
-pub fn read_number(word: &[u8]) -> Number {
+pub fn read_number(word: &[u8]) -> Number
+    ensures { λ r. ⌜ r ≡ numberOf (now (word .entry)) ⌝ }
+{
     if word.len() == 0 {
         return Number::Nothing;
     }
