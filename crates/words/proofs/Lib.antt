@@ -1,1 +1,2 @@
+pub mod Hex
 pub mod Numbers

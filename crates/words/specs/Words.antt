@@ -40,6 +40,14 @@ numberOf w = pick (eqb (length w) 0) number.Nothing (saysFrom 0 w)
 unfoldable pub longerBy : ℕ → ℕ → Number
 longerBy n d = pick (isDigit d) (pick (ltb (grown n d) (2 ^ 64)) (number.Says (grown n d)) number.Nothing) number.Nothing
 
+-- the value of a hexadecimal digit of either case, 16 where the octet is none
+unfoldable pub hexDigit : ℕ → ℕ
+hexDigit d = pick (isDigit d) (d - 48) (pick (leb 97 d && leb d 102) (d - 87) (pick (leb 65 d && leb d 70) (d - 55) 16))
+
+-- the upper-case digit of a value below 16
+unfoldable pub upperDigit : ℕ → ℕ
+upperDigit v = pick (ltb v 10) (48 + v) (55 + v)
+
 -- octets read lie within the room lent for them
 abbrev pub Within : Octets → ℕ → Type 0
 Within (octets.Says n) room = n ≤ room

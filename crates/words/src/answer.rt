@@ -1,7 +1,7 @@
 // The words of an answer, put one behind the other into an output of the desk. Where it is full, no more is put.
 ghost use mathlib.Core.Path.{_≡_};
 ghost use Prim.Native.Nat.{_≤_};
-ghost use lib.ListN.{length};
+ghost use Rattle.words.specs.Words.{upperDigit};
 use ground::Refusal;
 
 // Puts one octet at a place, and answers the next place.
@@ -35,6 +35,7 @@ pub fn decimal(out: &mut [u8], at: usize, n: u64) -> usize {
 // The upper-case digit of a value below 16.
 fn digit(value: u8) -> u8
     requires { ⌜ value ≤ 15 ⌝ }
+    ensures { λ r. ⌜ r ≡ upperDigit value ⌝ }
 {
     if value < 10 {
         b'0' + value

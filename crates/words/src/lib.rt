@@ -3,7 +3,7 @@
 ghost use mathlib.Core.Path.{_≡_};
 ghost use Prim.Native.Nat.{_≤_, _<_};
 ghost use lib.ListN.{length};
-ghost use Rattle.words.specs.Words.{Within, longerBy, numberOf};
+ghost use Rattle.words.specs.Words.{Within, hexDigit, longerBy, numberOf};
 
 mod answer; // answer.rt: the words of an answer
 mod asked; // asked.rt: the words that a call asks for, all at once
@@ -159,7 +159,7 @@ pub fn read_mode(word: &[u8]) -> Number {
 
 // The value of a hexadecimal digit of either case; 16 where it is none.
 fn digit(octet: u8) -> u8
-    ensures { λ r. ⌜ r ≤ 16 ⌝ }
+    ensures { λ r. ⌜ r ≡ hexDigit octet ⌝ }
 {
     match octet {
         b'0'..=b'9' => octet - b'0',
