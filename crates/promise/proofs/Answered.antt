@@ -19,7 +19,7 @@ use Rattle.channel.specs.Distance.{dist}
 use Rattle.channel.specs.Sending.{heardBase, ackedBy, underWay}
 use Rattle.channel.specs.declared.sending.Sending.{Sending}
 use Rattle.flow.specs.Flow.{Full}
-use Rattle.line.specs.Line.{receivingOf}
+use Rattle.line.specs.Line.{receivingOf, withSides}
 use Rattle.line.specs.declared.Line.{Line}
 use Rattle.writing.specs.Write.{baseFor, headFor}
 use Rattle.arriving.specs.Arrive.{heardLine, ackedLine, ackedAll, newsLine, arrivedLine}
@@ -50,12 +50,10 @@ one-acked : (l : Line) (word : ℕ) → ackedLine l word .sending1 .base ≡ l .
 unfolding ackedLine
 one-acked l word = go (eqb (channelOf word) 1)
   where
-    go : (t : Bool)
-        → pick {A = Line} t
-        (record { opened = l .opened; identifier = l .identifier; kind = l .kind; modes = l .modes; sending1 = ackedBy (pick t (l .sending1) (l .sending2)) (numberOf word); sending2 = l .sending2; receiving1 = l .receiving1; receiving2 = l .receiving2; owed = l .owed })
-        (record { opened = l .opened; identifier = l .identifier; kind = l .kind; modes = l .modes; sending1 = l .sending1; sending2 = ackedBy (pick t (l .sending1) (l .sending2)) (numberOf word); receiving1 = l .receiving1; receiving2 = l .receiving2; owed = l .owed })
-        .sending1 .base
-        ≡ l .sending1 .base
+    acked : Bool → Sending
+    acked t = ackedBy (pick t (l .sending1) (l .sending2)) (numberOf word)
+
+    go : (t : Bool) → pick t (withSides l (acked t) (l .sending2) (l .receiving1) (l .receiving2)) (withSides l (l .sending1) (acked t) (l .receiving1) (l .receiving2)) .sending1 .base ≡ l .sending1 .base
     go true = acked-base (l .sending1) (numberOf word)
     go false = refl
 

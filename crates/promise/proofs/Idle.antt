@@ -1,20 +1,23 @@
 -- Refusing everything fails both demands, and a constant body fails demand 2.
 -- Assumes nothing.
 use Prim.Native.Nat.{ℕ}
-use mathlib.Core.Bool.{true}
+use mathlib.Core.Bool.{true, false}
 use mathlib.Core.Path.{_≡_, refl, sym, ap, _∙_}
 use mathlib.Core.List.{List, [], _∷_}
 use native.Mathlib.Omega.{arith}
 use lib.Dec.{lit≤, lit<}
-use lib.ListN.{getD, replicate}
+use lib.ListN.{getD, take, replicate}
 use borrow.Author.Tests.{eqb-true}
 use Rattle.ground.specs.Refusal.{numberOf}
 use Rattle.ground.specs.Answer.{Answer}
 use Rattle.ground.specs.declared.Refusal.{Refusal}
 use Rattle.ground.proofs.Numbers.{number-some}
+use Rattle.connect.specs.Spans.{numbersFit, sizesFit}
+use Rattle.connect.specs.Write.{connectOctets, sizeFields}
+use Rattle.connect.specs.declared.Connect.{Connect}
 use Rattle.breaks.specs.Break.{breakFits}
 use Rattle.breaks.specs.declared.Break.{Break}
-use Rattle.promise.specs.Build.{Left}
+use Rattle.promise.specs.Build.{Left, Build}
 use Rattle.promise.specs.Demand2.{Demand2}
 use Rattle.promise.specs.Demand3.{Demand3}
 use Rattle.promise.specs.Idle.{refuser, constantBody}
@@ -38,10 +41,43 @@ refuser-opens-nothing r d =
     let n : numberOf r ≡ 0 = eqb-true _ _ e in
     omega (arith, n, number-some r)
 
--- two bodies cannot both be read from the one
-pub constant-body-fails : (w : Left) → Demand2 (constantBody w) → ⊥
+-- two bodies cannot both be read from the one: of no build that writes the same body for every BREAK, or for every CONNECT
+pub constant-break-fails : (b : Build) (w : Left) → ((c : Break) (out : List ℕ) → b .breakWrite c out ≡ w) → Demand2 b → ⊥
 unfolding breakFits
-constant-body-fails w d =
-    let e = sym (d .break-back (from 0) two refl .reads) ∙ d .break-back (from 1) two refl .reads in
+constant-break-fails b w same d =
+    let read : Left → Answer = λ x. b .breakRead (take (getD (x .answer .values) 0 0) (x .out)) in
+    let one = d .break-back (from 0) two refl .reads in
+    let other = d .break-back (from 1) two refl .reads in
+    let e = sym one ∙ ap read (same (from 0) two ∙ sym (same (from 1) two)) ∙ other in
     let n : _≡_ {A = ℕ} 0 1 = ap (λ (a : Answer). getD (a .values) 0 0) e in
     omega (arith, n)
+
+abbrev plain : ℕ → Connect
+plain modulation =
+    record {
+      modulation = modulation;
+      direction = 0;
+      compression = 0;
+      correction = 0;
+      transmit = record { rate = 0; dictionary = 0; string = 0; history = 0 };
+      receive = record { rate = 0; dictionary = 0; string = 0; history = 0 };
+      dlci = false;
+      octet = false;
+      rawbit = false;
+      frame = false;
+      charstat = false;
+      chardyn = false;
+    }
+
+pub constant-connect-fails : (b : Build) (w : Left) → ((c : Connect) (out : List ℕ) → b .connectWrite c out ≡ w) → Demand2 b → ⊥
+unfolding numbersFit sizesFit connectOctets sizeFields
+constant-connect-fails b w same d =
+    let read : Left → Answer = λ x. b .connectRead (take (getD (x .answer .values) 0 0) (x .out)) in
+    let one = d .connect-back (plain 0) (replicate 8 0) refl .reads in
+    let other = d .connect-back (plain 1) (replicate 8 0) refl .reads in
+    let e = sym one ∙ ap read (same (plain 0) (replicate 8 0) ∙ sym (same (plain 1) (replicate 8 0))) ∙ other in
+    let n : _≡_ {A = ℕ} 0 1 = ap (λ (a : Answer). getD (a .values) 0 0) e in
+    omega (arith, n)
+
+pub constant-body-fails : (w : Left) → Demand2 (constantBody w) → ⊥
+constant-body-fails w = constant-break-fails (constantBody w) w (λ c out. refl)

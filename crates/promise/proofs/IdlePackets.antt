@@ -7,7 +7,8 @@ use mathlib.Core.Bool.{true}
 use mathlib.Core.List.{List, [], _∷_}
 use native.Mathlib.Omega.{arith}
 use lib.Dec.{lit≤, lit<}
-use lib.ListN.{length, replicate, getD}
+use lib.ListN.{length, drop, replicate, getD}
+use lib.Seq.{take-append-seam}
 use Rattle.ground.specs.Answer.{Answer}
 use Rattle.ground.specs.Every.{every}
 use Rattle.field.specs.Bits.{bitsAt}
@@ -38,7 +39,8 @@ use Rattle.order.specs.Order.{openTests, modeTests, addressTests, arrivalTests,
 use Rattle.gateway.specs.Did.{did, done, effect}
 use Rattle.laws.specs.Reached.{Turn, reach}
 use Rattle.laws.proofs.Identifiers.{reached-passes}
-use Rattle.promise.specs.Run.{Gateway, lineAt}
+use Rattle.promise.specs.Run.{Gateway, does, given, lineAt}
+use Rattle.promise.specs.Build.{Build}
 use Rattle.promise.specs.Demand2.{Ready, Demand2}
 use Rattle.promise.specs.Report.{heldFrom, Reports}
 use Rattle.promise.specs.Idle.{constantPacket, callersLine, madeUp}
@@ -67,14 +69,17 @@ turns identifier = turn (call.opening 0 (named identifier) 0) ∷ turn (call.mod
 abbrev there : ℕ → Gateway
 there identifier = called (turns identifier)
 
--- the packets of two lines do not say the same
-pub constant-packet-fails : (s : List ℕ) → Demand2 (constantPacket s) → ⊥
+-- the packets of two lines do not say the same: no build gives one packet s for all
+pub constant-packets-fail : (b : Build) (s : List ℕ) → ((g : Gateway) (out : List ℕ) → given (does (b .does) g (call.empty 0 0) out) ≡ s) → Demand2 b → ⊥
 unfolding reach did done effect tests lineFor openTests modeTests bookFits linesFit allSpan openIn lineFits member noTwice allSpans owedFits modesFit sendingFits receivingFits sizes.sizesFit every asking moved timed channelsFor steppedTo
-constant-packet-fails s d =
+constant-packets-fail b s same d =
     let one = d .empty-back (there 5) 0 (ready (turns 5) refl (lit≤ tt)) refl 0 (lit≤ tt) (replicate 12 0) (lit≤ tt) .1 .head-back in
     let other = d .empty-back (there 6) 0 (ready (turns 6) refl (lit≤ tt)) refl 0 (lit≤ tt) (replicate 12 0) (lit≤ tt) .1 .head-back in
-    let n : _≡_ {A = ℕ} 5 6 = ap (λ (h : Head). h .identifier) (sym one ∙ other) in
+    let n : _≡_ {A = ℕ} 5 6 = ap (λ (h : Head). h .identifier) (sym one ∙ ap headAt (same (there 5) (replicate 12 0) ∙ sym (same (there 6) (replicate 12 0))) ∙ other) in
     omega (arith, n)
+
+pub constant-packet-fails : (s : List ℕ) → Demand2 (constantPacket s) → ⊥
+constant-packet-fails s = constant-packets-fail (constantPacket s) s (λ g out. take-append-seam s (drop (length s) out))
 
 -- a packet for identifier 6 is accepted at the line of identifier 5
 pub callers-line-fails : Demand2 callersLine → ⊥
