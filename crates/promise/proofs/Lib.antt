@@ -27,11 +27,3 @@ pub mod Packets
 pub mod Demand2
 pub mod Demand3
 pub mod Report
-pub mod Idle
-pub mod IdlePackets
-pub mod IdleRuns
-pub mod IdleRoom
-pub mod Twins
-pub mod Rounds
-pub mod Answered
-pub mod IdleSize

@@ -7,4 +7,3 @@ pub mod Ours
 pub mod Demand3
 pub mod Demand2
 pub mod Report
-pub mod Idle

@@ -12,17 +12,17 @@ use Rattle.line.specs.Line.{closedLine}
 use Rattle.book.specs.Book.{lineOf}
 use Rattle.order.specs.Call.{Call}
 use Rattle.gateway.specs.Did.{Did, did}
 use Rattle.promise.specs.Build.{Does}
 use Rattle.promise.specs.Past.{Past}
 use Rattle.promise.specs.Run.{Gateway, does, after, lineAt, Adds, Step, calls, here, Run}
 use Rattle.promise.specs.Promise.{sendsBy, receivesBy, InRelay}
 use Rattle.promise.specs.Ends.{sendsOf, receivesOf}
 use Rattle.promise.specs.Demand2.{Ready}
 use Rattle.promise.specs.Demand3.{Serves, Served}
-use Rattle.promise.specs.Idle.{arriving, older}
+use Rattle.idle.specs.Idle.{arriving, older}
 use Rattle.promise.proofs.Phases.{is-open}
 use Rattle.promise.proofs.Lift.{run-kept}
 use Rattle.promise.proofs.Demand3.{turned-run, promised, ours-demand3}
 
 abbrev pub f : Does
 f = arriving older

@@ -35,13 +35,13 @@ use Rattle.order.specs.Call.{Call}
 use Rattle.order.specs.Call as call
 use Rattle.order.specs.Order.{openTests, modeTests, addressTests, arrivalTests, lineFor, tests}
 use Rattle.gateway.specs.Did.{did, done, effect}
 use Rattle.promise.specs.Build.{Does}
 use Rattle.promise.specs.Past.{Packet, Past, nothingYet, justOpened, tookPast, wrotePast, heardPast}
 use Rattle.promise.specs.Past as marks
 use Rattle.promise.specs.Run.{Gateway, does, after, sentPacket, emptyPacket, none, also, took, sent, wrote, heard, calls, Goes, here, there}
 use Rattle.promise.specs.Demand3.{Demand3}
-use Rattle.promise.specs.Idle.{arriving, frees, freesOnAck}
-use Rattle.promise.proofs.IdleRuns.{fresh, inside, begun, run}
+use Rattle.idle.specs.Idle.{arriving, frees, freesOnAck}
+use Rattle.idle.proofs.IdleRuns.{fresh, inside, begun, run}
 
 abbrev f : Does
 f = arriving frees

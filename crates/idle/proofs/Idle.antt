@@ -17,10 +17,10 @@ use Rattle.connect.specs.Write.{connectOctets, sizeFields}
 use Rattle.connect.specs.declared.Connect.{Connect}
 use Rattle.breaks.specs.Break.{breakFits}
 use Rattle.breaks.specs.declared.Break.{Break}
 use Rattle.promise.specs.Build.{Left, Build}
 use Rattle.promise.specs.Demand2.{Demand2}
 use Rattle.promise.specs.Demand3.{Demand3}
-use Rattle.promise.specs.Idle.{refuser, constantBody}
+use Rattle.idle.specs.Idle.{refuser, constantBody}
 
 -- a BREAK body from a source
 abbrev from : ℕ → Break

@@ -44,25 +44,25 @@ use Rattle.order.specs.Call.{Call}
 use Rattle.order.specs.Call as call
 use Rattle.order.specs.Order.{openTests, modeTests, lineFor, tests}
 use Rattle.gateway.specs.Did.{Did, did, done, effect}
 use Rattle.promise.specs.Past.{Past, nothingYet, justOpened, heardPast}
 use Rattle.promise.specs.Run.{Gateway, does, after, lineAt, rankedMark, moded, heard, opens, calls, Step, Goes, stay, here, there, Run}
 use Rattle.promise.specs.Promise.{receivesBy, AllCame, HandsOut}
 use Rattle.promise.specs.Promise as promise
 use Rattle.promise.specs.Ends.{roomsOf, receivesOf}
 use Rattle.promise.specs.Demand3.{Serves, Demand3}
-use Rattle.promise.specs.Idle.{expected, isOlder, unread, ignored, older, bySize}
+use Rattle.idle.specs.Idle.{expected, isOlder, unread, ignored, older, bySize}
 use Rattle.promise.proofs.Views.{rooms-roomy}
 use Rattle.promise.proofs.Ends.{Sides, gets-ok, relay-sides}
 use Rattle.promise.proofs.Own.{call-passes}
 use Rattle.promise.proofs.Calls.{hand-asks}
 use Rattle.promise.proofs.Lift.{run-kept}
 use Rattle.promise.proofs.Demand3.{turned-run}
-use Rattle.promise.proofs.IdlePackets.{named}
-use Rattle.promise.proofs.IdleRuns.{fresh, inside, begun, run}
-use Rattle.promise.proofs.Twins.{f, Twin, turned, goes-on, served, ready, S-is, h-is, R-is}
-use Rattle.promise.proofs.Rounds as rounds
-use Rattle.promise.proofs.Rounds.{At, room}
-use Rattle.promise.proofs.Answered.{round}
+use Rattle.idle.proofs.IdlePackets.{named}
+use Rattle.idle.proofs.IdleRuns.{fresh, inside, begun, run}
+use Rattle.idle.proofs.Twins.{f, Twin, turned, goes-on, served, ready, S-is, h-is, R-is}
+use Rattle.idle.proofs.Rounds as rounds
+use Rattle.idle.proofs.Rounds.{At, room}
+use Rattle.idle.proofs.Answered.{round}
 
 -- the two begin, in a run of ours and of this build alike
 start : At 0

@@ -39,15 +39,15 @@ use Rattle.order.specs.Call.{Call}
 use Rattle.order.specs.Call as call
 use Rattle.order.specs.Order.{openTests, modeTests, addressTests, arrivalTests, lineFor, tests}
 use Rattle.gateway.specs.Did.{did, done, effect}
 use Rattle.promise.specs.Build.{Does}
 use Rattle.promise.specs.Past.{Packet, Past, nothingYet, justOpened, tookPast, wrotePast, heardPast}
 use Rattle.promise.specs.Past as marks
 use Rattle.promise.specs.Run.{Gateway, freshWith, does, after, sentPacket, emptyPacket, none, also, Honest, took, sent, wrote, heard, moded, opens, calls, Goes, stay, here, there, Run}
 use Rattle.promise.specs.Promise.{AllCame, HandsOut}
 use Rattle.promise.specs.Promise as promise
 use Rattle.promise.specs.Demand3.{Demand3}
-use Rattle.promise.specs.Idle.{Arrives, instead, arriving, lets, forgets, holdsNothing, loses, storesNothing, skips, firstOnly}
-use Rattle.promise.proofs.IdlePackets.{zeros, named}
+use Rattle.idle.specs.Idle.{Arrives, instead, arriving, lets, forgets, holdsNothing, loses, storesNothing, skips, firstOnly}
+use Rattle.idle.proofs.IdlePackets.{zeros, named}
 
 abbrev opening : Call
 opening = call.opening 0 (named 5) 0

@@ -39,11 +39,11 @@ use Rattle.order.specs.Order.{openTests, modeTests, addressTests, arrivalTests,
 use Rattle.gateway.specs.Did.{did, done, effect}
 use Rattle.laws.specs.Reached.{Turn, reach}
 use Rattle.laws.proofs.Identifiers.{reached-passes}
 use Rattle.promise.specs.Run.{Gateway, does, given, lineAt}
 use Rattle.promise.specs.Build.{Build}
 use Rattle.promise.specs.Demand2.{Ready, Demand2}
 use Rattle.promise.specs.Report.{heldFrom, Reports}
-use Rattle.promise.specs.Idle.{constantPacket, callersLine, madeUp}
+use Rattle.idle.specs.Idle.{constantPacket, callersLine, madeUp}
 
 -- a store of 42,240 octets, and a line with an identifier
 abbrev pub zeros : List ℕ
