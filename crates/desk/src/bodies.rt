@@ -1,6 +1,6 @@
 // CONNECT and BREAK bodies and slips, which need no book: read, written, and answered. Each answers how many octets its answer
 // has; none where the line is no call.
-use crate::calls::wrote;
+use crate::says::wrote;
 use breaks::Break;
 use connect::Connect;
 use connect::Way;

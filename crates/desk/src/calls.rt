@@ -2,128 +2,15 @@
 // book as the call leaves it, and how many octets the answer has; none where the line is no call.
 use crate::Sat;
 use crate::Seat;
+use crate::says;
 use crate::spoil;
 use book::Book;
-use gateway::Arrived;
-use gateway::Report;
-use gateway::Taken;
-use ground::Verdict;
-use ground::Written;
 use line::Settings;
-use mode::Asked;
-use mode::Heard;
-use mode::Ticked;
 
 // A book after a line, and how many octets its answer has.
 pub struct Made {
     pub book: Book,
     pub said: usize,
-}
-
-// Puts the answer of a call that wrote octets into an output of 600.
-pub fn wrote(answer: Written, octets: &[u8; 600], out: &mut [u8]) -> usize {
-    says_written(answer, octets, out)
-}
-
-// Puts the answer of a call that wrote octets.
-fn says_written(answer: Written, octets: &[u8], out: &mut [u8]) -> usize {
-    match answer {
-        Written::Refused(r) => words::refusal(out, r),
-        Written::Wrote(n) => {
-            let said = words::put(out, 0, b"ok");
-            if octets.len() < n {
-                return 0;
-            }
-            words::hexadecimal(out, said, &octets[0..n])
-        }
-    }
-}
-
-// Puts ` ` and a mode's letter.
-fn lettered(out: &mut [u8], at: usize, mode: u8) -> usize {
-    match mode {
-        1 => words::put(out, at, b" a"),
-        2 => words::put(out, at, b" v"),
-        3 => words::put(out, at, b" m"),
-        4 => words::put(out, at, b" f"),
-        5 => words::put(out, at, b" t"),
-        _ => words::put(out, at, b" i"),
-    }
-}
-
-// Puts the answer of an opening.
-fn says_opened(answer: Verdict, out: &mut [u8]) -> usize {
-    match answer {
-        Verdict::Refuse(r) => words::refusal(out, r),
-        Verdict::Pass => words::put(out, 0, b"ok"),
-    }
-}
-
-// Puts the answer to an indication: S, and whether a P' notice is to be sent.
-fn says_heard(answer: Heard, out: &mut [u8]) -> usize {
-    match answer {
-        Heard::Refused(r) => words::refusal(out, r),
-        Heard::Mode(local, notice) => {
-            let ok = words::put(out, 0, b"ok");
-            let named = lettered(out, ok, local);
-            if notice {
-                words::put(out, named, b" notice")
-            } else {
-                words::put(out, named, b" quiet")
-            }
-        }
-    }
-}
-
-// Puts the answer to a request: S.
-fn says_granted(answer: Asked, out: &mut [u8]) -> usize {
-    match answer {
-        Asked::Refused(r) => words::refusal(out, r),
-        Asked::Mode(local) => {
-            let ok = words::put(out, 0, b"ok");
-            lettered(out, ok, local)
-        }
-    }
-}
-
-// Puts the answer to a tick.
-fn says_due(answer: Ticked, out: &mut [u8]) -> usize {
-    match answer {
-        Ticked::Refused(r) => words::refusal(out, r),
-        Ticked::Quiet => words::put(out, 0, b"ok quiet"),
-        Ticked::Ended => words::put(out, 0, b"ok ended"),
-        Ticked::Audio(n) => {
-            let ok = words::put(out, 0, b"ok audio");
-            words::decimal(out, ok, n as u64)
-        }
-    }
-}
-
-// Puts the answer of a message taken.
-fn says_taken(answer: Taken, out: &mut [u8]) -> usize {
-    match answer {
-        Taken::Refused(r) => words::refusal(out, r),
-        Taken::Number(_) => words::put(out, 0, b"ok"),
-    }
-}
-
-// Puts the answer of an arrival.
-fn says_arrived(answer: Arrived, out: &mut [u8]) -> usize {
-    match answer {
-        Arrived::Refused(r) => words::refusal(out, r),
-        Arrived::At(_) => words::put(out, 0, b"ok"),
-    }
-}
-
-// Puts how many messages are held.
-fn says_holds(answer: Report, out: &mut [u8]) -> usize {
-    match answer {
-        Report::Refused(r) => words::refusal(out, r),
-        Report::Holds(count) => {
-            let ok = words::put(out, 0, b"ok");
-            words::decimal(out, ok, count as u64)
-        }
-    }
 }
 
 // `open LINE ID TYPE VBD RELAY TIME`
@@ -140,7 +27,7 @@ fn open(book: Book, s: &[u8], at: usize, out: &mut [u8]) -> Made {
     };
     let opened = gateway::open(book, asked.octet(0), settings, asked.long(5));
     let answer = opened.answer;
-    let said = says_opened(answer, out);
+    let said = says::opened(answer, out);
     let next = opened.book;
     Made { book: next, said }
 }
@@ -155,7 +42,7 @@ fn close(book: Book, s: &[u8], at: usize, out: &mut [u8]) -> Made {
     let room = asked.room(1);
     let gave = gateway::close(book, asked.octet(0), &mut slip[0..room]);
     let answer = gave.answer;
-    let said = wrote(answer, &slip, out);
+    let said = says::wrote(answer, &slip, out);
     let next = gave.book;
     Made { book: next, said }
 }
@@ -168,7 +55,7 @@ fn hear(book: Book, s: &[u8], at: usize, out: &mut [u8]) -> Made {
     }
     let hears = gateway::hear(book, asked.octet(0), asked.octet(1), asked.long(2));
     let answer = hears.answer;
-    let said = says_heard(answer, out);
+    let said = says::heard(answer, out);
     let next = hears.book;
     Made { book: next, said }
 }
@@ -181,7 +68,7 @@ fn ask(book: Book, s: &[u8], at: usize, out: &mut [u8]) -> Made {
     }
     let asks = gateway::ask(book, asked.octet(0), asked.octet(1), asked.long(2));
     let answer = asks.answer;
-    let said = says_granted(answer, out);
+    let said = says::granted(answer, out);
     let next = asks.book;
     Made { book: next, said }
 }
@@ -194,7 +81,7 @@ fn tick(book: Book, s: &[u8], at: usize, out: &mut [u8]) -> Made {
     }
     let ticks = gateway::tick(book, asked.octet(0), asked.long(1));
     let answer = ticks.answer;
-    let said = says_due(answer, out);
+    let said = says::due(answer, out);
     let next = ticks.book;
     Made { book: next, said }
 }
@@ -215,7 +102,7 @@ fn take(book: Book, store: &mut [u8], s: &[u8], at: usize, out: &mut [u8]) -> Ma
         &message[0..size],
     );
     let answer = took.answer;
-    let said = says_taken(answer, out);
+    let said = says::taken(answer, out);
     let next = took.book;
     Made { book: next, said }
 }
@@ -237,7 +124,7 @@ fn send(book: Book, store: &[u8], s: &[u8], at: usize, out: &mut [u8]) -> Made {
         &mut packet[0..room],
     );
     let answer = gave.answer;
-    let said = wrote(answer, &packet, out);
+    let said = says::wrote(answer, &packet, out);
     let next = gave.book;
     Made { book: next, said }
 }
@@ -252,7 +139,7 @@ fn empty(book: Book, s: &[u8], at: usize, out: &mut [u8]) -> Made {
     let room = asked.room(2);
     let gave = gateway::empty(book, asked.octet(0), asked.octet(1), &mut packet[0..room]);
     let answer = gave.answer;
-    let said = wrote(answer, &packet, out);
+    let said = says::wrote(answer, &packet, out);
     let next = gave.book;
     Made { book: next, said }
 }
@@ -267,7 +154,7 @@ fn arrive(book: Book, store: &mut [u8], s: &[u8], at: usize, out: &mut [u8]) -> 
     let size = asked.size;
     let came = gateway::arrive(book, store, &packet[0..size]);
     let answer = came.answer;
-    let said = says_arrived(answer, out);
+    let said = says::arrived(answer, out);
     let next = came.book;
     Made { book: next, said }
 }
@@ -288,7 +175,7 @@ fn hand_out(book: Book, store: &[u8], s: &[u8], at: usize, out: &mut [u8]) -> Ma
         &mut message[0..room],
     );
     let answer = gave.answer;
-    let said = wrote(answer, &message, out);
+    let said = says::wrote(answer, &message, out);
     let next = gave.book;
     Made { book: next, said }
 }
@@ -300,7 +187,7 @@ fn held(book: Book, s: &[u8], at: usize, out: &mut [u8]) -> Made {
         return Made { book, said: 0 };
     }
     let report = gateway::held(book, asked.octet(0), asked.octet(1));
-    let said = says_holds(report, out);
+    let said = says::holds(report, out);
     Made { book, said }
 }
 

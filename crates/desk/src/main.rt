@@ -7,6 +7,7 @@ use script::Script;
 mod bodies; // bodies.rt: CONNECT, BREAK and slips
 mod calls; // calls.rt: the calls at a gateway
 mod record; // record.rt: `spoil`, one part of a line's record
+mod says; // says.rt: the words of their answers
 mod script; // script.rt: the script's octets, cut into lines
 mod sides; // sides.rt: `spoil`, one part of a channel's sides
 mod spoil; // spoil.rt: `spoil`, the part of a book that it names
