@@ -8,10 +8,7 @@ last=${2:-9}
 calls=${3:-25000}
 log=$(mktemp -d) || exit 2
 trap 'rm -rf "$log"' EXIT
-if ! command -v cargo >/dev/null 2>&1; then
-    { apt-get update -q && apt-get install -y -q --no-install-recommends cargo rustc; } >/dev/null 2>&1 ||
-        { echo "cargo cannot be installed"; exit 1; }
-fi
+. tests/cargo.bash
 (cd second && CARGO_TARGET_DIR=$log/built cargo build --release --offline --quiet) || exit 1
 rt check desk > "$log/check" 2>&1 || { tail -n 20 "$log/check"; echo "the desk is not built"; exit 1; }
 bad=0
