@@ -1,5 +1,5 @@
 -- One input, one outcome: any two outcomes that meet the contract of a public call are one, in the answer, in the book and in what is lent.
--- The contracts are those of src/lib.rt: x and y stand for what a call returns, p and q for what it leaves in the slice that is lent.
+-- The contracts are those of the gateway's src/lib.rt: x and y stand for what a call returns, p and q for what it leaves in the slice that is lent.
 -- Assumes nothing.
 use Prim.Native.Nat.{ℕ}
 use mathlib.Core.Path.{_≡_, sym, ap, _∙_}

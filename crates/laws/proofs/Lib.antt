@@ -5,3 +5,4 @@ pub mod Own
 pub mod Identifiers
 pub mod Unread
 pub mod Determined
+pub mod Bodies
