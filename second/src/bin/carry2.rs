@@ -1,0 +1,141 @@
+//! Carries messages from one gateway to another and says how many came as they were taken: the same work as the library's
+//! program `carry`, so that the instructions of the two can be told apart. `bench/run` runs both.
+//!
+//! `carry2 COUNT OCTETS WHAT`, where WHAT is `carry`, or `check`, the same with one refused call more before each call; or
+//! `bare`, the program's own work without a call; or `still` or `full`, COUNT refused calls on a book that holds nothing, or
+//! all that it can.
+
+use second::gateway::Gateway;
+use second::line::Settings;
+use second::modes::Mode;
+use second::refusal::Refusal;
+
+const PACKET: usize = 144;
+const LARGEST: usize = 132;
+
+/// What was counted: messages that came as they were taken and their octets, and calls that were refused RANGE.
+#[derive(Default)]
+struct Tally {
+    carried: u64,
+    octets: u64,
+    refused: u64,
+}
+
+/// A gateway with four lines in modem relay.
+fn ready() -> Gateway {
+    let mut gateway = Gateway::fresh();
+    for line in 0..4 {
+        let settings = Settings {
+            identifier: line,
+            payload_type: 98,
+            vbd: true,
+            relay: true,
+        };
+        let _ = gateway.open(line, settings, 0);
+        let _ = gateway.ask(line, Mode::Relay, 0);
+    }
+    gateway
+}
+
+/// A call that is refused right behind BOOK, because there is no line 9.
+fn refused(gateway: &mut Gateway) -> u64 {
+    u64::from(gateway.held(9, 1) == Err(Refusal::Range))
+}
+
+/// The message of a number.
+fn fill(message: &mut [u8], number: u64) {
+    for (i, octet) in message.iter_mut().enumerate() {
+        *octet = (number + i as u64) as u8;
+    }
+}
+
+/// How many octets of the two are the same.
+fn alike(one: &[u8], other: &[u8]) -> usize {
+    one.iter().zip(other).filter(|(a, b)| a == b).count()
+}
+
+/// Takes, writes, arrives, hands out, and acknowledges one message. Where `check` is set, each call is made a second time by
+/// one that is refused right behind BOOK.
+fn carry(a: &mut Gateway, b: &mut Gateway, message: &[u8], check: bool, tally: &mut Tally) -> Result<Vec<u8>, Refusal> {
+    let mut look = |gateway: &mut Gateway| {
+        if check {
+            tally.refused += refused(gateway);
+        }
+    };
+    look(a);
+    a.take(0, 1, message)?;
+    look(a);
+    let packet = a.send(0, 1, 0, PACKET)?;
+    look(b);
+    b.arrive(&packet)?;
+    look(b);
+    let got = b.out(0, 1, LARGEST)?;
+    look(b);
+    let news = b.empty(0, 1, PACKET)?;
+    look(a);
+    a.arrive(&news)?;
+    Ok(got)
+}
+
+/// Carries `count` messages of `size` octets; without a call where `bare` is set.
+fn run(count: u64, size: usize, what: &str) -> Tally {
+    let mut tally = Tally::default();
+    let mut a = ready();
+    let mut b = ready();
+    let mut message = vec![0; size];
+    let mut got = vec![0; size];
+    for number in 0..count {
+        fill(&mut message, number);
+        if what != "bare" {
+            got = carry(&mut a, &mut b, &message, what == "check", &mut tally).unwrap_or_default();
+        }
+        if alike(&message, &got) == size && got.len() == size {
+            tally.carried += 1;
+            tally.octets += size as u64;
+        }
+    }
+    tally
+}
+
+/// A packet of identifier `line` on a channel, with that number and three octets.
+fn packet(line: u8, channel: u8, number: u8) -> [u8; 9] {
+    [line, 98, channel << 6, number, 0, 0, 1, 2, 3]
+}
+
+/// A gateway all of whose windows are full, and that owes 64 numbers on each line: 32 and 24 old ones of channel 1, 8 of 2.
+fn full() -> Gateway {
+    let mut gateway = ready();
+    for line in 0..4 {
+        for number in 0..56 {
+            let _ = gateway.take(line, 1, &[1, 2, 3]);
+            let _ = gateway.arrive(&packet(line, 1, number));
+        }
+        for number in 0..8 {
+            let _ = gateway.take(line, 2, &[1, 2, 3]);
+            let _ = gateway.arrive(&packet(line, 2, number));
+        }
+    }
+    gateway
+}
+
+fn main() {
+    let mut words = std::env::args().skip(1);
+    let count = words.next().and_then(|word| word.parse().ok()).unwrap_or(1000);
+    let size = words.next().and_then(|word| word.parse().ok()).unwrap_or(LARGEST);
+    let what = words.next().unwrap_or_else(|| "carry".into());
+    let tally = match what.as_str() {
+        "still" | "full" => {
+            let mut gateway = if what == "full" { full() } else { ready() };
+            let refused = (0..count).map(|_| refused(&mut gateway)).sum();
+            Tally {
+                refused,
+                ..Tally::default()
+            }
+        }
+        _ => run(count, size, &what),
+    };
+    println!(
+        "carried {} of {} messages of {} octets, {} octets, {} calls refused",
+        tally.carried, count, size, tally.octets, tally.refused
+    );
+}
