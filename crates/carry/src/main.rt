@@ -2,7 +2,8 @@
 // implementation has a program of the same work, and `bench/run` runs both.
 //
 // `carry COUNT OCTETS WHAT`, where WHAT is `carry`, or `check`, the same with one refused call more before each call; or `bare`,
-// the program's own work without a call; or `still` or `full`, COUNT refused calls on a book that holds nothing, or all it can.
+// the program's own work without a call; or `still` or `full`, COUNT refused calls on a book that holds nothing, or whose windows
+// and owed lists are full.
 ghost use Prim.Native.Nat.{_≤_};
 use book::Book;
 use gateway::Report;

@@ -3,7 +3,7 @@
 //!
 //! `carry2 COUNT OCTETS WHAT`, where WHAT is `carry`, or `check`, the same with one refused call more before each call; or
 //! `bare`, the program's own work without a call; or `still` or `full`, COUNT refused calls on a book that holds nothing, or
-//! all that it can.
+//! whose windows and owed lists are full.
 
 use second::gateway::Gateway;
 use second::line::Settings;
