@@ -15,7 +15,7 @@ for seed in 0 1 2 3 18446744073709551615; do
     rows=$(awk '$3 == "to" && $6 == $7 && $7 == $8 && $6 > 0 { n++; sum += $6 } END { print n, sum }' "$log/said")
     last=$(tail -n 1 "$log/said")
     case "$rows/$last" in
-    "16 52800/Right: "*" 52800 of 52800") ;;
+    "16 52800/Right: "*": 52800 taken, 52800 handed out, of 52800") ;;
     *) fail "seed $seed: $rows; $last" ;;
     esac
     # A link that loses nothing, or never delays, would show nothing.

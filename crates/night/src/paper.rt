@@ -191,9 +191,11 @@ fn judgement(out: &mut [u8], at: usize, right: bool) -> usize {
 pub fn verdict(out: &mut [u8], tally: &[u64]) {
     say(out, b"");
     let at = judgement(out, 0, right(tally));
-    let at = words::decimal(out, at, tally::sum(tally, tally::HANDED));
-    let at = words::put(out, at, b" of");
     let at = words::decimal(out, at, tally::sum(tally, tally::TAKEN));
+    let at = words::put(out, at, b" taken,");
+    let at = words::decimal(out, at, tally::sum(tally, tally::HANDED));
+    let at = words::put(out, at, b" handed out, of");
+    let at = words::decimal(out, at, tally::sum(tally, tally::ASKED));
     line(out, at);
 }
 
