@@ -36,7 +36,7 @@ use Rattle.channel.specs.declared.sending.Sending.{Sending}
 use Rattle.channel.specs.declared.receiving.Receiving.{Receiving}
 use Rattle.channel.specs.declared.receiving.Arrival.{Arrival}
 use Rattle.channel.specs.declared.receiving.Arrival.the-variants.{Stored}
-use Rattle.channel.proofs.Keeps.{sending-ok, receiving-ok, heard-keeps, acked-keeps}
+use Rattle.flow.proofs.Keeps.{sending-ok, receiving-ok, heard-keeps, acked-keeps}
 use Rattle.channel.proofs.Distances.{place-lt}
 use Rattle.owed.proofs.Steps.{owed-ok}
 use Rattle.mode.specs.Given.{modem}

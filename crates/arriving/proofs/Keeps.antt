@@ -24,7 +24,7 @@ use Rattle.channel.specs.declared.sending.Sending.{Sending}
 use Rattle.channel.specs.declared.receiving.Receiving.{Receiving}
 use Rattle.channel.specs.declared.receiving.Arrival.{Arrival}
 use Rattle.channel.specs.declared.receiving.Arrival.the-variants.{Stored, There, Old}
-use Rattle.channel.proofs.Keeps.{arrived-keeps}
+use Rattle.flow.proofs.Keeps.{arrived-keeps}
 use Rattle.owed.proofs.Steps.{enter-keeps, word-span}
 use Rattle.mode.specs.declared.Modes.{Modes}
 use Rattle.line.specs.Line.{sendingOf, receivingOf, withReceiving}

@@ -29,7 +29,7 @@ use Rattle.places.proofs.Bits.{with-lt}
 use Rattle.channel.proofs.Distances.{dist-up, dist-down}
 use Rattle.flow.proofs.Flows.{first-old}
 use Rattle.flow.proofs.Messages.{message-none, message-past, message-full, message-without, message-kept, message-new, message-old, message-moved}
-use Rattle.channel.proofs.Sized.{Sized}
+use Rattle.flow.proofs.Sized.{Sized}
 
 -- A number that a packet names, against the oldest one of a window: in it by 14 bits is in it.
 module _ (w stale h S : ℕ) (wide : w + stale ≤ modulus) (a : h ≤ S) (g : S ≤ h + w) (n : ℕ) (l : n < S) (fresh : S ≤ n + stale) where

@@ -24,7 +24,7 @@ use Rattle.flow.proofs.Flows.{take-flow, base-flow, ack-flow, arrive-fl
 use Rattle.flow.proofs.Messages.{full-of, message-in, message-full}
 use Rattle.flow.proofs.Moves.{took-moves, heard-moves, acked-moves, arrived-moves, handed-moves}
 use Rattle.places.proofs.Ranks.{rank-holds, rank-below}
-use Rattle.channel.proofs.Sized.{Sized}
+use Rattle.flow.proofs.Sized.{Sized}
 
 -- message R, as it is handed out, is the one that the view shows
 pub next-message : (w : ℕ) (room : Rooms) (r : Receiving) → r .first < w → bitOf (maskOf (r .stored)) 0 ≡ true

@@ -20,7 +20,7 @@ use Rattle.channel.specs.Sending.{sendingFits}
 use Rattle.channel.specs.Receiving.{receivingFits}
 use Rattle.channel.specs.Sizes as sizes
 use Rattle.channel.specs.declared.receiving.Receiving.{Receiving}
-use Rattle.channel.proofs.Keeps.{receiving-sized}
+use Rattle.flow.proofs.Keeps.{receiving-sized}
 use Rattle.flow.specs.Flow.{Full}
 use Rattle.flow.specs.View.{messageOf}
 use Rattle.flow.proofs.Messages.{message-full}

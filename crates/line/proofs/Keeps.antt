@@ -13,7 +13,7 @@ use Rattle.channel.specs.Sending.{sendingFits, emptiedSending}
 use Rattle.channel.specs.Receiving.{receivingFits, emptiedReceiving}
 use Rattle.channel.specs.declared.sending.Sending.{Sending}
 use Rattle.channel.specs.declared.receiving.Receiving.{Receiving}
-use Rattle.channel.proofs.Keeps.{fresh-sending, fresh-receiving, emptied-keeps, cleared-keeps}
+use Rattle.flow.proofs.Keeps.{fresh-sending, fresh-receiving, emptied-keeps, cleared-keeps}
 use Rattle.mode.specs.Given.{modem}
 use Rattle.mode.specs.Fit.{modesFit}
 use Rattle.mode.specs.Moved.{channelsFor}

@@ -27,7 +27,7 @@ use Rattle.channel.specs.declared.receiving.Receiving.{Receiving}
 use Rattle.channel.specs.declared.sending.Held.{Held}
 use Rattle.channel.specs.declared.sending.Ranked.{Ranked}
 use Rattle.channel.specs.declared.sending.Ranked.the-variants.{Is}
-use Rattle.channel.proofs.Keeps.{receiving-sized}
+use Rattle.flow.proofs.Keeps.{receiving-sized}
 use Rattle.flow.specs.Flow.{Message, Full}
 use Rattle.line.specs.Fit.{largest, lineFits}
 use Rattle.line.specs.Line.{sendingOf, receivingOf}

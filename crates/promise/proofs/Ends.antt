@@ -17,7 +17,7 @@ use Rattle.packet.specs.Read.{headAt, acksAt, payloadOf, payloadFits, headTests
 use Rattle.channel.specs.Channel.{modulus, windowOf}
 use Rattle.channel.specs.Sending.{SendingOk, sendingFits}
 use Rattle.channel.specs.Receiving.{ReceivingOk, receivingFits}
-use Rattle.channel.proofs.Keeps.{sending-ok, receiving-ok}
+use Rattle.flow.proofs.Keeps.{sending-ok, receiving-ok}
 use Rattle.flow.specs.Flow.{Message, Sends, Receives, Have, Flow, Data, Grows}
 use Rattle.owed.specs.Owed.{owedOf}
 use Rattle.line.specs.Fit.{largest, lineFits}

@@ -16,7 +16,7 @@ use Rattle.channel.specs.Sending.{freshSending, emptiedSending, sendingFits}
 use Rattle.channel.specs.Receiving.{freshReceiving, emptiedReceiving, receivingFits}
 use Rattle.channel.specs.declared.sending.Sending.{Sending}
 use Rattle.channel.specs.declared.receiving.Receiving.{Receiving}
-use Rattle.channel.proofs.Keeps.{fresh-sending, fresh-receiving}
+use Rattle.flow.proofs.Keeps.{fresh-sending, fresh-receiving}
 use Rattle.flow.specs.Flow.{Sends, Receives, Flow, Grows}
 use Rattle.flow.specs.View.{sends, receives}
 use Rattle.flow.proofs.Messages.{message-none}

@@ -14,7 +14,7 @@ use Rattle.places.proofs.Ranks.{count-reach}
 use Rattle.channel.specs.Channel.{windowOf}
 use Rattle.channel.specs.Sending.{SendingOk, heldCount}
 use Rattle.channel.specs.declared.sending.Sending.{Sending}
-use Rattle.channel.proofs.Keeps.{sending-sized}
+use Rattle.flow.proofs.Keeps.{sending-sized}
 use Rattle.flow.specs.Flow.{Message, Sends, Full}
 use Rattle.flow.specs.View.{Rooms, messageOf}
 use Rattle.flow.proofs.Messages.{message-none, message-full}

@@ -17,7 +17,7 @@ use Rattle.channel.specs.Receiving.{arrivalOf, arrivalPlace, arrivedAs}
 use Rattle.channel.specs.declared.receiving.Receiving.{Receiving}
 use Rattle.channel.specs.declared.receiving.Arrival.{Arrival}
 use Rattle.channel.specs.declared.receiving.Arrival.the-variants.{Stored, There, Old}
-use Rattle.channel.proofs.Keeps.{receiving-sized}
+use Rattle.flow.proofs.Keeps.{receiving-sized}
 use Rattle.flow.specs.Flow.{Message, Receives, Arrived, Data, Grows, Have}
 use Rattle.flow.specs.View.{receives, PutAs}
 use Rattle.flow.proofs.Fields.{arrival-field}

@@ -23,7 +23,7 @@ use Rattle.channel.specs.Receiving.{ReceivingOk}
 use Rattle.channel.specs.declared.sending.Sending.{Sending}
 use Rattle.channel.specs.declared.receiving.Receiving.{Receiving}
 use Rattle.channel.proofs.Distances.{place-lt}
-use Rattle.channel.proofs.Sized.{bit-below}
+use Rattle.flow.proofs.Sized.{bit-below}
 use Rattle.flow.specs.Flow.{Message}
 use Rattle.flow.specs.View.{Rooms, messageAt, messageOf, sends, receives, PutAt, Roomy}
 use Rattle.line.specs.Fit.{largest}

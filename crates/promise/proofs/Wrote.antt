@@ -28,7 +28,7 @@ use Rattle.channel.specs.Distance.{placeOf}
 use Rattle.channel.specs.Sending.{heldAt, heldOf}
 use Rattle.channel.specs.declared.sending.Held.{Held}
 use Rattle.channel.specs.declared.sending.Sending.{Sending}
-use Rattle.channel.proofs.Keeps.{sending-sized}
+use Rattle.flow.proofs.Keeps.{sending-sized}
 use Rattle.flow.specs.Flow.{Message, Full, Data}
 use Rattle.flow.specs.View.{Rooms}
 use Rattle.flow.proofs.Messages.{message-in, message-full}

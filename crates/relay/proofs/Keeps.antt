@@ -14,7 +14,7 @@ use Rattle.channel.specs.Sending.{nextPlace, tookOne}
 use Rattle.channel.specs.Receiving.{handedOut}
 use Rattle.channel.specs.declared.receiving.Receiving.{Receiving}
 use Rattle.channel.specs.declared.sending.Sending.{Sending}
-use Rattle.channel.proofs.Keeps.{took-keeps, handed-keeps}
+use Rattle.flow.proofs.Keeps.{took-keeps, handed-keeps}
 use Rattle.line.specs.Line.{sendingOf, receivingOf, withSides, withSending, withReceiving}
 use Rattle.line.specs.Fit.{largest, lineFits}
 use Rattle.line.specs.Shape.{Shaped}

@@ -24,7 +24,7 @@ use Rattle.channel.proofs.Distances.{place-lt}
 use Rattle.channel.specs.Receiving.{ReceivingOk, handTests, nextSize}
 use Rattle.channel.specs.Distance.{placeOf}
 use Rattle.channel.specs.declared.receiving.Receiving.{Receiving}
-use Rattle.channel.proofs.Keeps.{sending-ok, receiving-ok, receiving-sized}
+use Rattle.flow.proofs.Keeps.{sending-ok, receiving-ok, receiving-sized}
 use Rattle.mode.specs.Given.{modem}
 use Rattle.line.specs.Line.{sendingOf, receivingOf}
 use Rattle.line.specs.Fit.{largest, lineFits}

@@ -28,7 +28,7 @@ use Rattle.channel.specs.declared.sending.Ranked.{Ranked}
 use Rattle.channel.specs.declared.sending.Ranked.the-variants.{Is, Nothing}
 use Rattle.channel.specs.declared.sending.Sending.{Sending}
 use Rattle.channel.proofs.Distances.{place-lt}
-use Rattle.channel.proofs.Keeps.{sending-sized}
+use Rattle.flow.proofs.Keeps.{sending-sized}
 use Rattle.packet.specs.Read as packet
 use Rattle.packet.specs.Write.{numbersPlaced, writeTests}
 use Rattle.packet.proofs.Writes.{packet-length}

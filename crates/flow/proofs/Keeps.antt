@@ -14,18 +14,18 @@ use Rattle.ground.specs.Refusal.{verdict}
 use Rattle.ground.specs.declared.Verdict.the-variants.{Pass}
 use Rattle.ground.proofs.Picks.{pick-by, pick-lt, both-true, each, together, clash}
 use Rattle.ground.proofs.Verdicts.{passed}
 use Rattle.channel.specs.Channel.{cap}
 use Rattle.channel.specs.Distance.{dist}
 use Rattle.places.specs.Places.{maskOf, widest, bitOf}
 use Rattle.channel.specs.Receiving.{emptiedReceiving, ReceivingOk, freshReceiving, arrivalOf, arrivedAs, storedAt, handTests, handedOut, receivingTests, receivingFits}
 use Rattle.channel.specs.Sending.{SendingOk, freshSending, emptiedSending, underWay, takeTests, tookOne, movedBy, heardBase, droppedAt, ackedBy, sendingTests, sendingFits}
 use Rattle.channel.specs.Sizes.{sizeFits}
 use Rattle.channel.specs.declared.receiving.Arrival.{Arrival}
 use Rattle.channel.specs.declared.receiving.Receiving.{Receiving}
 use Rattle.channel.specs.declared.sending.Sending.{Sending}
 use Rattle.places.proofs.Bits.{bit-past, within-lt, lt-within, with-lt, without-le}
 use Rattle.channel.proofs.Distances.{place-lt}
-use Rattle.channel.proofs.Sized.{Sized, sizes-each, sizes-all, sized-with, sized-without, sized-dropped}
+use Rattle.flow.proofs.Sized.{Sized, sizes-each, sizes-all, sized-with, sized-without, sized-dropped}
 
 module _ (w z : ℕ) where
   -- BOOK's test of a sending side as facts, and back
