@@ -22,7 +22,7 @@ use Rattle.packet.specs.Acks.{ackList}
 use Rattle.packet.specs.Read.{headAt}
 use Rattle.packet.specs.Write.{packetOctets, writeTests}
 use Rattle.packet.specs.declared.Head.{Head}
-use Rattle.packet.proofs.Back.{size-round}
+use Rattle.back.proofs.Packets.{size-round}
 use Rattle.channel.specs.Channel.{modulus, windowOf}
 use Rattle.channel.specs.Distance.{placeOf}
 use Rattle.channel.specs.Sending.{heldAt, heldOf}
