@@ -30,12 +30,12 @@ use Rattle.packet.specs.declared.Head.{Head}
 use Rattle.places.specs.Places.{maskOf, widest, bitOf}
 use Rattle.channel.specs.Channel.{windowOf}
 use Rattle.channel.specs.Distance.{dist}
-use Rattle.channel.specs.Sending.{SendingOk, heardBase, ackedBy, sendingFits}
-use Rattle.channel.specs.Receiving.{ReceivingOk, arrivalOf, arrivalPlace, arrivedAs}
-use Rattle.channel.specs.declared.sending.Sending.{Sending}
-use Rattle.channel.specs.declared.receiving.Receiving.{Receiving}
-use Rattle.channel.specs.declared.receiving.Arrival.{Arrival}
-use Rattle.channel.specs.declared.receiving.Arrival.the-variants.{Stored}
+use Rattle.sending.specs.Sending.{SendingOk, heardBase, ackedBy, sendingFits}
+use Rattle.receiving.specs.Receiving.{ReceivingOk, arrivalOf, arrivalPlace, arrivedAs}
+use Rattle.sending.specs.declared.Sending.{Sending}
+use Rattle.receiving.specs.declared.Receiving.{Receiving}
+use Rattle.receiving.specs.declared.Arrival.{Arrival}
+use Rattle.receiving.specs.declared.Arrival.the-variants.{Stored}
 use Rattle.flow.proofs.Keeps.{sending-ok, receiving-ok, heard-keeps, acked-keeps}
 use Rattle.channel.proofs.Distances.{place-lt}
 use Rattle.owed.proofs.Steps.{owed-ok}

@@ -18,12 +18,12 @@ use Rattle.packet.specs.Read.{headAt, acksAt, payloadOf}
 use Rattle.channel.specs.Channel.{windowOf}
 use Rattle.channel.specs.Distance.{dist}
 use Rattle.channel.specs.Sizes.{sizeFits}
-use Rattle.channel.specs.Sending.{underWay, heardBase, ackedBy}
-use Rattle.channel.specs.Receiving.{receivingFits, arrivalPlace, storedAt, arrivedAs}
-use Rattle.channel.specs.declared.sending.Sending.{Sending}
-use Rattle.channel.specs.declared.receiving.Receiving.{Receiving}
-use Rattle.channel.specs.declared.receiving.Arrival.{Arrival}
-use Rattle.channel.specs.declared.receiving.Arrival.the-variants.{Stored, There, Old}
+use Rattle.sending.specs.Sending.{underWay, heardBase, ackedBy}
+use Rattle.receiving.specs.Receiving.{receivingFits, arrivalPlace, storedAt, arrivedAs}
+use Rattle.sending.specs.declared.Sending.{Sending}
+use Rattle.receiving.specs.declared.Receiving.{Receiving}
+use Rattle.receiving.specs.declared.Arrival.{Arrival}
+use Rattle.receiving.specs.declared.Arrival.the-variants.{Stored, There, Old}
 use Rattle.flow.proofs.Keeps.{arrived-keeps}
 use Rattle.owed.proofs.Steps.{enter-keeps, word-span}
 use Rattle.mode.specs.declared.Modes.{Modes}

@@ -13,10 +13,10 @@ use Rattle.field.specs.Word.{channelOf, numberOf}
 use Rattle.packet.specs.Acks.{ackList}
 use Rattle.packet.specs.Read.{headAt, acksAt, payloadOf}
 use Rattle.channel.specs.Channel.{windowOf}
-use Rattle.channel.specs.Sending.{heardBase, ackedBy}
-use Rattle.channel.specs.Receiving.{arrivalOf, arrivedAs}
-use Rattle.channel.specs.declared.sending.Sending.{Sending}
-use Rattle.channel.specs.declared.receiving.Receiving.{Receiving}
+use Rattle.sending.specs.Sending.{heardBase, ackedBy}
+use Rattle.receiving.specs.Receiving.{arrivalOf, arrivedAs}
+use Rattle.sending.specs.declared.Sending.{Sending}
+use Rattle.receiving.specs.declared.Receiving.{Receiving}
 use Rattle.line.specs.Line.{sendingOf, receivingOf, withSides, withSending}
 use Rattle.line.specs.declared.Line.{Line}
 use Rattle.store.specs.Store.{regionOf}

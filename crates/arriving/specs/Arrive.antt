@@ -14,11 +14,11 @@ use Rattle.field.specs.Word.{channelOf, numberOf, wordOf}
 use Rattle.packet.specs.Acks.{ackList}
 use Rattle.packet.specs.Read.{headAt, acksAt, payloadOf, listTests, payloadFits}
 use Rattle.channel.specs.Channel.{windowOf}
-use Rattle.channel.specs.Sending.{heardBase, ackedBy}
-use Rattle.channel.specs.Receiving.{arrivalOf, arrivalPlace, arrivedAs}
-use Rattle.channel.specs.declared.receiving.Receiving.{Receiving}
-use Rattle.channel.specs.declared.receiving.Arrival.{Arrival}
-use Rattle.channel.specs.declared.receiving.Arrival.the-variants.{Stored, There, Old}
+use Rattle.sending.specs.Sending.{heardBase, ackedBy}
+use Rattle.receiving.specs.Receiving.{arrivalOf, arrivalPlace, arrivedAs}
+use Rattle.receiving.specs.declared.Receiving.{Receiving}
+use Rattle.receiving.specs.declared.Arrival.{Arrival}
+use Rattle.receiving.specs.declared.Arrival.the-variants.{Stored, There, Old}
 use Rattle.mode.specs.Given.{modem}
 use Rattle.owed.specs.Owed.{entered}
 use Rattle.line.specs.Line.{sendingOf, withSending, receivingOf, withReceiving}

@@ -12,7 +12,6 @@ ghost use Rattle.packet.specs.Read.{headAt, headTests};
 ghost use Rattle.line.specs.Fit.{largest, lineFits};
 ghost use Rattle.relay.specs.Asked.{reliable};
 ghost use Rattle.arriving.specs.Arrive.{arriveTests, Relaying, heardLine, ackedLine, ackedAll, owingLine, storedLine, storedStore, arrivedLine, arrivedStore};
-use channel::Arrival;
 use channel::Channel;
 use ground::Refusal;
 use ground::Verdict;
@@ -21,6 +20,7 @@ use mode::Modes;
 use packet::Acks;
 use packet::AcksRead;
 use packet::HeadRead;
+use receiving::Arrival;
 use store::Region;
 use store::Way;
 

@@ -11,11 +11,11 @@ use Rattle.ground.specs.Pick.{pick}
 use Rattle.channel.specs.Channel.{modulus}
 use Rattle.channel.specs.Distance.{dist}
 use Rattle.places.specs.Places.{maskOf, bitOf}
-use Rattle.channel.specs.Receiving.{arrivalOf}
-use Rattle.channel.specs.Sending.{SendingOk, underWay, movedBy, heardBase, droppedAt, ackedBy, namedBy}
-use Rattle.channel.specs.declared.receiving.Arrival.the-variants.{Stored, There, Old}
-use Rattle.channel.specs.declared.receiving.Receiving.{Receiving}
-use Rattle.channel.specs.declared.sending.Sending.{Sending}
+use Rattle.receiving.specs.Receiving.{arrivalOf}
+use Rattle.sending.specs.Sending.{SendingOk, underWay, movedBy, heardBase, droppedAt, ackedBy, namedBy}
+use Rattle.receiving.specs.declared.Arrival.the-variants.{Stored, There, Old}
+use Rattle.receiving.specs.declared.Receiving.{Receiving}
+use Rattle.sending.specs.declared.Sending.{Sending}
 use Rattle.channel.proofs.Distances.{dist-up, dist-down}
 use Rattle.ground.proofs.Picks.{and-false}
 

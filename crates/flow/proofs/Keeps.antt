@@ -17,12 +17,12 @@ use Rattle.ground.proofs.Verdicts.{passed}
 use Rattle.channel.specs.Channel.{cap}
 use Rattle.channel.specs.Distance.{dist}
 use Rattle.places.specs.Places.{maskOf, widest, bitOf}
-use Rattle.channel.specs.Receiving.{emptiedReceiving, ReceivingOk, freshReceiving, arrivalOf, arrivedAs, storedAt, handTests, handedOut, receivingTests, receivingFits}
-use Rattle.channel.specs.Sending.{SendingOk, freshSending, emptiedSending, underWay, takeTests, tookOne, movedBy, heardBase, droppedAt, ackedBy, sendingTests, sendingFits}
+use Rattle.receiving.specs.Receiving.{emptiedReceiving, ReceivingOk, freshReceiving, arrivalOf, arrivedAs, storedAt, handTests, handedOut, receivingTests, receivingFits}
+use Rattle.sending.specs.Sending.{SendingOk, freshSending, emptiedSending, underWay, takeTests, tookOne, movedBy, heardBase, droppedAt, ackedBy, sendingTests, sendingFits}
 use Rattle.channel.specs.Sizes.{sizeFits}
-use Rattle.channel.specs.declared.receiving.Arrival.{Arrival}
-use Rattle.channel.specs.declared.receiving.Receiving.{Receiving}
-use Rattle.channel.specs.declared.sending.Sending.{Sending}
+use Rattle.receiving.specs.declared.Arrival.{Arrival}
+use Rattle.receiving.specs.declared.Receiving.{Receiving}
+use Rattle.sending.specs.declared.Sending.{Sending}
 use Rattle.places.proofs.Bits.{bit-past, within-lt, lt-within, with-lt, without-le}
 use Rattle.channel.proofs.Distances.{place-lt}
 use Rattle.flow.proofs.Sized.{Sized, sizes-each, sizes-all, sized-with, sized-without, sized-dropped}

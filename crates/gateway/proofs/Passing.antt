@@ -14,8 +14,8 @@ use Rattle.ground.specs.declared.Verdict.{Verdict}
 use Rattle.ground.specs.declared.Verdict.the-variants.{Pass, Refuse}
 use Rattle.ground.proofs.Verdicts.{passed, pass-both}
 use Rattle.packet.specs.Read.{headAt, headTests}
-use Rattle.channel.specs.Receiving.{nextSize}
-use Rattle.channel.specs.declared.sending.Held.{Held}
+use Rattle.receiving.specs.Receiving.{nextSize}
+use Rattle.sending.specs.declared.Held.{Held}
 use Rattle.line.specs.Fit.{lineFits}
 use Rattle.line.specs.Line.{receivingOf}
 use Rattle.line.specs.declared.Line.{Line}

@@ -16,8 +16,8 @@ use Rattle.packet.specs.Read.{headAt, acksAt, payloadOf}
 use Rattle.packet.specs.declared.Head.{Head}
 use Rattle.channel.specs.Channel.{modulus}
 use Rattle.channel.specs.Distance.{dist}
-use Rattle.channel.specs.Sending.{heardBase, ackedBy, underWay}
-use Rattle.channel.specs.declared.sending.Sending.{Sending}
+use Rattle.sending.specs.Sending.{heardBase, ackedBy, underWay}
+use Rattle.sending.specs.declared.Sending.{Sending}
 use Rattle.flow.specs.Flow.{Full}
 use Rattle.line.specs.Line.{receivingOf, withSides}
 use Rattle.line.specs.declared.Line.{Line}

@@ -14,8 +14,8 @@ use Rattle.packet.specs.Read.{headAt, numberAt, baseAt, acksAt, ackAt, payloadO
 use Rattle.packet.specs.Read as reading
 use Rattle.packet.specs.Write.{packetOctets}
 use Rattle.places.specs.Places.{setBelow, lowest, rankOf}
-use Rattle.channel.specs.Sending.{tookOne, heardBase, ackedBy, heldOf, sendingFits}
-use Rattle.channel.specs.Receiving.{arrivalOf, storedAt, receivingFits}
+use Rattle.sending.specs.Sending.{tookOne, heardBase, ackedBy, heldOf, sendingFits}
+use Rattle.receiving.specs.Receiving.{arrivalOf, storedAt, receivingFits}
 use Rattle.channel.specs.Sizes as sizes
 use Rattle.owed.specs.Owed.{member, enters, entered, firstThree, withoutThree, noTwice, allSpans, owedFits}
 use Rattle.mode.specs.Fit.{modesFit}

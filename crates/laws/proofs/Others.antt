@@ -15,10 +15,10 @@ use Rattle.ground.proofs.Picks.{pick-by}
 use Rattle.ground.proofs.Settled.{settled-by}
 use Rattle.packet.specs.Read.{headAt, payloadOf}
 use Rattle.channel.specs.Channel.{windowOf}
-use Rattle.channel.specs.Sending.{nextPlace}
-use Rattle.channel.specs.Receiving.{arrivalPlace}
-use Rattle.channel.specs.declared.receiving.Arrival.{Arrival}
-use Rattle.channel.specs.declared.receiving.Arrival.the-variants.{Stored, There, Old}
+use Rattle.sending.specs.Sending.{nextPlace}
+use Rattle.receiving.specs.Receiving.{arrivalPlace}
+use Rattle.receiving.specs.declared.Arrival.{Arrival}
+use Rattle.receiving.specs.declared.Arrival.the-variants.{Stored, There, Old}
 use Rattle.line.specs.Fit.{largest}
 use Rattle.line.specs.Line.{sendingOf, receivingOf}
 use Rattle.line.specs.declared.Line.{Line}

@@ -15,8 +15,8 @@ use Rattle.field.specs.Word.{wordOf}
 use Rattle.packet.specs.Acks.{ackList}
 use Rattle.packet.specs.Read.{headAt, acksAt, payloadOf, payloadFits, headTests, listTests}
 use Rattle.channel.specs.Channel.{modulus, windowOf}
-use Rattle.channel.specs.Sending.{SendingOk, sendingFits}
-use Rattle.channel.specs.Receiving.{ReceivingOk, receivingFits}
+use Rattle.sending.specs.Sending.{SendingOk, sendingFits}
+use Rattle.receiving.specs.Receiving.{ReceivingOk, receivingFits}
 use Rattle.flow.proofs.Keeps.{sending-ok, receiving-ok}
 use Rattle.flow.specs.Flow.{Message, Sends, Receives, Have, Flow, Data, Grows}
 use Rattle.owed.specs.Owed.{owedOf}

@@ -9,7 +9,7 @@ use native.Mathlib.Omega.{arith}
 use lib.Dec.{lit≤}
 use lib.ListN.{length, take, drop, replicate, length-drop}
 use Rattle.ground.proofs.Every.{below-suc}
-use Rattle.channel.specs.Sending.{heldCount}
+use Rattle.sending.specs.Sending.{heldCount}
 use Rattle.flow.specs.Flow.{Sends, Full}
 use Rattle.flow.proofs.Flows.{none-or}
 use Rattle.line.specs.Line.{sendingOf}

@@ -12,10 +12,10 @@ use lib.Pow.{pow-pos}
 use Rattle.ground.proofs.Picks.{pick-by}
 use Rattle.places.proofs.Bits.{bit-past}
 use Rattle.channel.specs.Channel.{windowOf}
-use Rattle.channel.specs.Sending.{freshSending, emptiedSending, sendingFits}
-use Rattle.channel.specs.Receiving.{freshReceiving, emptiedReceiving, receivingFits}
-use Rattle.channel.specs.declared.sending.Sending.{Sending}
-use Rattle.channel.specs.declared.receiving.Receiving.{Receiving}
+use Rattle.sending.specs.Sending.{freshSending, emptiedSending, sendingFits}
+use Rattle.receiving.specs.Receiving.{freshReceiving, emptiedReceiving, receivingFits}
+use Rattle.sending.specs.declared.Sending.{Sending}
+use Rattle.receiving.specs.declared.Receiving.{Receiving}
 use Rattle.flow.proofs.Keeps.{fresh-sending, fresh-receiving}
 use Rattle.flow.specs.Flow.{Sends, Receives, Flow, Grows}
 use Rattle.flow.specs.View.{sends, receives}

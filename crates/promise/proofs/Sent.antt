@@ -16,8 +16,8 @@ use Rattle.ground.proofs.Picks.{pick-by, both-true}
 use Rattle.ground.proofs.Verdicts.{passed}
 use Rattle.ground.proofs.Every.{apart}
 use Rattle.channel.specs.Channel.{windowOf}
-use Rattle.channel.specs.Sending.{nextPlace, tookOne}
-use Rattle.channel.specs.declared.sending.Sending.{Sending}
+use Rattle.sending.specs.Sending.{nextPlace, tookOne}
+use Rattle.sending.specs.declared.Sending.{Sending}
 use Rattle.flow.specs.Flow.{Message, Flow, Data, Grows}
 use Rattle.flow.specs.View.{sends}
 use Rattle.flow.proofs.Flows.{data-more}

@@ -13,10 +13,10 @@ use Rattle.ground.proofs.Picks.{pick-by}
 use Rattle.field.specs.Word.{wordOf}
 use Rattle.channel.specs.Channel.{modulus, windowOf}
 use Rattle.channel.specs.Sizes.{sizeFits}
-use Rattle.channel.specs.Receiving.{arrivalOf, arrivalPlace, arrivedAs}
-use Rattle.channel.specs.declared.receiving.Receiving.{Receiving}
-use Rattle.channel.specs.declared.receiving.Arrival.{Arrival}
-use Rattle.channel.specs.declared.receiving.Arrival.the-variants.{Stored, There, Old}
+use Rattle.receiving.specs.Receiving.{arrivalOf, arrivalPlace, arrivedAs}
+use Rattle.receiving.specs.declared.Receiving.{Receiving}
+use Rattle.receiving.specs.declared.Arrival.{Arrival}
+use Rattle.receiving.specs.declared.Arrival.the-variants.{Stored, There, Old}
 use Rattle.flow.proofs.Keeps.{receiving-sized}
 use Rattle.flow.specs.Flow.{Message, Receives, Arrived, Data, Grows, Have}
 use Rattle.flow.specs.View.{receives, PutAs}

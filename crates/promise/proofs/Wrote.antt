@@ -25,9 +25,9 @@ use Rattle.packet.specs.declared.Head.{Head}
 use Rattle.back.proofs.Packets.{size-round}
 use Rattle.channel.specs.Channel.{modulus, windowOf}
 use Rattle.channel.specs.Distance.{placeOf}
-use Rattle.channel.specs.Sending.{heldAt, heldOf}
-use Rattle.channel.specs.declared.sending.Held.{Held}
-use Rattle.channel.specs.declared.sending.Sending.{Sending}
+use Rattle.sending.specs.Sending.{heldAt, heldOf}
+use Rattle.sending.specs.declared.Held.{Held}
+use Rattle.sending.specs.declared.Sending.{Sending}
 use Rattle.flow.proofs.Keeps.{sending-sized}
 use Rattle.flow.specs.Flow.{Message, Full, Data}
 use Rattle.flow.specs.View.{Rooms}

@@ -2,9 +2,9 @@ use Rattle.field.specs.Word.{channelOf}
 use Rattle.arriving.proofs.Arrivals.{sending-spans}
 use Rattle.arriving.specs.Arrive.{ackedLine}
 use Rattle.line.specs.Line.{withSending}
-use Rattle.channel.specs.Sending.{ackedBy}
-use Rattle.channel.specs.declared.sending.Acknowledged.{Acknowledged}
-use Rattle.channel.specs.declared.sending.Sending.{Sending}
+use Rattle.sending.specs.Sending.{ackedBy}
+use Rattle.sending.specs.declared.Acknowledged.{Acknowledged}
+use Rattle.sending.specs.declared.Sending.{Sending}
 use mathlib.Core.Path.{ap, _∙_}
 use lib.Bits.{mask-lt, and-mask}
 use native.Mathlib.Omega.{arith}

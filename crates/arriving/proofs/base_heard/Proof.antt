@@ -1,8 +1,8 @@
 use Rattle.arriving.proofs.Arrivals.{sending-steps}
 use Rattle.arriving.specs.Arrive.{heardLine}
 use Rattle.line.specs.Line.{withSending}
-use Rattle.channel.specs.Sending.{heardBase}
-use Rattle.channel.specs.declared.sending.Sending.{Sending}
+use Rattle.sending.specs.Sending.{heardBase}
+use Rattle.sending.specs.declared.Sending.{Sending}
 use Rattle.channel.specs.declared.Channel.{Channel}
 use mathlib.Core.Path.{ap, _∙_}
 use borrow.Author.Needs.{needs}

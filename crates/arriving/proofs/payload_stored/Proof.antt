@@ -3,9 +3,9 @@ use Rattle.arriving.specs.Arrive.{arrivalAt}
 use Rattle.relay.proofs.Lines.{region-size, room-there}
 use Rattle.store.specs.Store.{roomAt}
 use Rattle.line.specs.Line.{receivingOf, withReceiving}
-use Rattle.channel.specs.declared.receiving.Arrival.the-variants.{Stored, There, Old}
+use Rattle.receiving.specs.declared.Arrival.the-variants.{Stored, There, Old}
 use Rattle.channel.specs.declared.Channel.{Channel}
-use Rattle.channel.specs.Receiving.{arrivalOf, arrivalPlace, storedAt}
+use Rattle.receiving.specs.Receiving.{arrivalOf, arrivalPlace, storedAt}
 use Rattle.channel.specs.Channel.{windowOf}
 use denote.Ref.{now}
 use lib.Seq.{sets}
