@@ -37,9 +37,11 @@ use Rattle.store.specs.Store.{regionOf, roomAt}
 use Rattle.store.specs.declared.Region.{Region}
 use Rattle.store.specs.declared.Way.the-variants as way
 use Rattle.relay.specs.Asked.{reliable}
-use Rattle.arriving.specs.Arrive.{arriveTests, Relaying, heardLine, ackedLine, ackedAll, owingLine, arrivalAt, storedLine, putAs, storedStore, newsLine, carries, arrivedLine, arrivedStore}
-use Rattle.arriving.proofs.Stays.{stored-stays}
-use Rattle.arriving.proofs.Arrivals.{narrow, reliable-span, ok, news-relaying, number-lt, arrive-relaying, arrive-size, arrive-reliable}
+use Rattle.effect.specs.Effect.{Relaying, heardLine, ackedLine, ackedAll, owingLine, arrivalAt, storedLine, putAs, storedStore}
+use Rattle.arriving.specs.Arrive.{arriveTests, newsLine, carries, arrivedLine, arrivedStore}
+use Rattle.effect.proofs.Stays.{stored-stays}
+use Rattle.effect.proofs.Effects.{narrow, reliable-span, ok}
+use Rattle.arriving.proofs.Arrivals.{news-relaying, number-lt, arrive-relaying, arrive-size, arrive-reliable}
 
 -- no step changes how many sizes a side has
 heard-sizes : (w : ℕ) (s : Sending) (b : ℕ) → heardBase w s b .sizes ≡ s .sizes

@@ -22,7 +22,8 @@ use Rattle.flow.specs.Flow.{Full}
 use Rattle.line.specs.Line.{receivingOf, withSides}
 use Rattle.line.specs.declared.Line.{Line}
 use Rattle.writing.specs.Write.{baseFor, headFor}
-use Rattle.arriving.specs.Arrive.{heardLine, ackedLine, ackedAll, newsLine, arrivedLine}
+use Rattle.effect.specs.Effect.{heardLine, ackedLine, ackedAll}
+use Rattle.arriving.specs.Arrive.{newsLine, arrivedLine}
 use Rattle.arriving.proofs.Arrivals.{news-all, payload-length}
 use Rattle.book.specs.Book.{lineOf}
 use Rattle.order.specs.Call.{Call}

@@ -33,7 +33,8 @@ use Rattle.relay.specs.HandOut.{handCallTests}
 use Rattle.writing.specs.Write.{acksFor, wroteLine, baseFor, emptyTests}
 use Rattle.writing.specs.Write as writes
 use Rattle.writing.specs.Send.{sendTests, heldPacket}
-use Rattle.arriving.specs.Arrive.{arriveTests, heardLine, ackedLine, ackedAll, storedLine, storedStore, newsLine, arrivedLine, arrivedStore}
+use Rattle.effect.specs.Effect.{heardLine, ackedLine, ackedAll, storedLine, storedStore}
+use Rattle.arriving.specs.Arrive.{arriveTests, newsLine, arrivedLine, arrivedStore}
 use Rattle.book.specs.Book.{openIn, linesFit, allSpan, bookFits, whoseFrom}
 use Rattle.order.specs.Call.{Call}
 use Rattle.order.specs.Call as call

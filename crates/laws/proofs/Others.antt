@@ -31,8 +31,10 @@ use Rattle.store.proofs.Rooms.{Whose, Served, region, region-end, regions-apart
 use Rattle.relay.specs.Asked.{reliable}
 use Rattle.relay.specs.Take.{takeCallTests}
 use Rattle.relay.proofs.Lines.{channel-span, region-places, region-size, take-reliable, take-size, take-place}
-use Rattle.arriving.specs.Arrive.{Relaying, arriveTests, arrivalAt, putAs, storedStore, carries, arrivedStore}
-use Rattle.arriving.proofs.Arrivals.{stored-near, place-near, arrive-relaying, arrive-size, arrive-reliable}
+use Rattle.effect.specs.Effect.{Relaying, arrivalAt, putAs, storedStore}
+use Rattle.arriving.specs.Arrive.{arriveTests, carries, arrivedStore}
+use Rattle.effect.proofs.Effects.{stored-near, place-near}
+use Rattle.arriving.proofs.Arrivals.{arrive-relaying, arrive-size, arrive-reliable}
 use Rattle.book.specs.Book.{lineOf}
 use Rattle.book.specs.Shape.{BookShaped}
 use Rattle.book.specs.declared.Book.{Book}

@@ -41,7 +41,7 @@ use Rattle.writing.specs.Write.{headerFor, emptyTests}
 use Rattle.writing.specs.Send.{ranked, heldIn, sendTests, sentLength}
 use Rattle.writing.proofs.Packets.{acks-few}
 use Rattle.writing.proofs.Sends.{send-may, may-passed, may-sendable, send-size}
-use Rattle.arriving.proofs.Arrivals.{narrow}
+use Rattle.effect.proofs.Effects.{narrow}
 use Rattle.book.proofs.Facts.{line-fits}
 use Rattle.order.specs.Call as call
 use Rattle.order.specs.Order.{tests, fitBook, roomy, lineNumber}

@@ -27,7 +27,7 @@ use Rattle.line.specs.declared.Line.{Line}
 use Rattle.line.proofs.Keeps.{line-ok, sending-side, receiving-side}
 use Rattle.mode.specs.Given.{modem}
 use Rattle.relay.specs.Asked.{reliable}
-use Rattle.arriving.proofs.Arrivals.{narrow}
+use Rattle.effect.proofs.Effects.{narrow}
 use Rattle.promise.specs.Past.{Mark, Packet, Past}
 use Rattle.promise.specs.Run.{Each, bound}
 use Rattle.promise.specs.Ends.{sendsOf, receivesOf}

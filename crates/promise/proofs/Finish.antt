@@ -16,7 +16,7 @@ use Rattle.line.specs.Line.{sendingOf}
 use Rattle.relay.specs.Asked.{reliable}
 use Rattle.writing.specs.Write.{wroteLine}
 use Rattle.writing.specs.Send.{ranked, heldIn}
-use Rattle.arriving.proofs.Arrivals.{narrow}
+use Rattle.effect.proofs.Effects.{narrow}
 use Rattle.order.specs.Call.{Call}
 use Rattle.order.specs.Call as call
 use Rattle.order.specs.Order.{lineFor}

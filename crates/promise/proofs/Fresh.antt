@@ -33,7 +33,7 @@ use Rattle.mode.specs.declared.Channels.the-variants.{Stay, Fresh, Emptied}
 use Rattle.store.specs.declared.Way.{Way}
 use Rattle.store.specs.declared.Way.the-variants as way
 use Rattle.relay.specs.Asked.{reliable}
-use Rattle.arriving.proofs.Arrivals.{narrow}
+use Rattle.effect.proofs.Effects.{narrow}
 use Rattle.promise.specs.Past.{Past}
 use Rattle.promise.specs.Run.{Each, none}
 use Rattle.promise.specs.Ends.{roomsOf, sendsOf, receivesOf}

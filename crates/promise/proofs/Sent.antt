@@ -38,7 +38,7 @@ use Rattle.relay.specs.Asked.{reliable, relayTests}
 use Rattle.relay.specs.Take.{takeCallTests, tookLine, tookStore}
 use Rattle.relay.proofs.Lines.{channel-span, take-asked, take-reliable, take-fits, take-size, take-window, take-place}
 use Rattle.relay.proofs.Keeps.{with-sending-same, took-line-keeps}
-use Rattle.arriving.proofs.Arrivals.{narrow}
+use Rattle.effect.proofs.Effects.{narrow}
 use Rattle.promise.specs.Past.{more, tookPast}
 use Rattle.promise.specs.Run.{bound}
 use Rattle.promise.specs.Ends.{roomsOf}

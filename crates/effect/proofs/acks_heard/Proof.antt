@@ -1,11 +1,11 @@
-use Rattle.arriving.proofs.Arrivals.{acked-relaying}
-use Rattle.arriving.specs.Arrive.{ackedLine, ackedAll}
+use Rattle.effect.proofs.Effects.{acked-relaying}
+use Rattle.effect.specs.Effect.{ackedLine, ackedAll}
 use Rattle.line.specs.declared.Line.{Line}
 use native.Mathlib.Omega.{arith}
 use mathlib.Core.Path.{_≡_, refl, ap, _∙_}
 use borrow.Author.Needs.{needs}
-use Rattle.arriving.proofs.acks_heard.Statement.{statement}
-use Rattle.arriving.proofs.acks_heard.Tie as tie
+use Rattle.effect.proofs.acks_heard.Statement.{statement}
+use Rattle.effect.proofs.acks_heard.Tie as tie
 
 returns : tie.Need-returns
 unfolding ackedAll

@@ -1,6 +1,6 @@
 use Rattle.field.specs.Word.{channelOf}
-use Rattle.arriving.proofs.Arrivals.{sending-spans}
-use Rattle.arriving.specs.Arrive.{ackedLine}
+use Rattle.effect.proofs.Effects.{sending-spans}
+use Rattle.effect.specs.Effect.{ackedLine}
 use Rattle.line.specs.Line.{withSending}
 use Rattle.sending.specs.Sending.{ackedBy}
 use Rattle.sending.specs.declared.Acknowledged.{Acknowledged}
@@ -9,8 +9,8 @@ use mathlib.Core.Path.{ap, _∙_}
 use lib.Bits.{mask-lt, and-mask}
 use native.Mathlib.Omega.{arith}
 use borrow.Author.Needs.{needs}
-use Rattle.arriving.proofs.ack_heard.Statement.{statement}
-use Rattle.arriving.proofs.ack_heard.Tie as tie
+use Rattle.effect.proofs.ack_heard.Statement.{statement}
+use Rattle.effect.proofs.ack_heard.Tie as tie
 
 cast-channel : tie.Need-cast-channel
 cast-channel c = search needs

@@ -1,13 +1,13 @@
-use Rattle.arriving.proofs.Arrivals.{sending-steps}
-use Rattle.arriving.specs.Arrive.{heardLine}
+use Rattle.effect.proofs.Effects.{sending-steps}
+use Rattle.effect.specs.Effect.{heardLine}
 use Rattle.line.specs.Line.{withSending}
 use Rattle.sending.specs.Sending.{heardBase}
 use Rattle.sending.specs.declared.Sending.{Sending}
 use Rattle.channel.specs.declared.Channel.{Channel}
 use mathlib.Core.Path.{ap, _∙_}
 use borrow.Author.Needs.{needs}
-use Rattle.arriving.proofs.base_heard.Statement.{statement}
-use Rattle.arriving.proofs.base_heard.Tie as tie
+use Rattle.effect.proofs.base_heard.Statement.{statement}
+use Rattle.effect.proofs.base_heard.Tie as tie
 
 sending-requires : tie.Need-sending-requires
 sending-requires c κs = search needs

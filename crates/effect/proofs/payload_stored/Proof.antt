@@ -1,5 +1,5 @@
-use Rattle.arriving.proofs.Arrivals.{narrow, stored-near, receiving-steps, place-near, same-side, stored-line, stored-store}
-use Rattle.arriving.specs.Arrive.{arrivalAt}
+use Rattle.effect.proofs.Effects.{narrow, stored-near, receiving-steps, place-near, same-side, stored-line, stored-store}
+use Rattle.effect.specs.Effect.{arrivalAt}
 use Rattle.relay.proofs.Lines.{region-size, room-there}
 use Rattle.store.specs.Store.{roomAt}
 use Rattle.line.specs.Line.{receivingOf, withReceiving}
@@ -13,8 +13,8 @@ use lib.ListN.{length}
 use mathlib.Core.Path.{_≡_, sym, ap, _∙_}
 use Prim.Native.Nat.{_<_}
 use borrow.Author.Needs.{needs}
-use Rattle.arriving.proofs.payload_stored.Statement.{statement}
-use Rattle.arriving.proofs.payload_stored.Tie as tie
+use Rattle.effect.proofs.payload_stored.Statement.{statement}
+use Rattle.effect.proofs.payload_stored.Tie as tie
 
 number-owed-requires : tie.Need-number-owed-requires
 number-owed-requires c κs = search needs

@@ -1,10 +1,10 @@
-use Rattle.arriving.proofs.Arrivals.{owes, reliable-span}
+use Rattle.effect.proofs.Effects.{owes, reliable-span}
 use Rattle.owed.specs.Owed.{entered}
 use native.Mathlib.Omega.{arith}
 use mathlib.Core.Path.{ap, _∙_}
 use Prim.Native.Nat.{ℕ}
-use Rattle.arriving.proofs.number_owed.Statement.{statement}
-use Rattle.arriving.proofs.number_owed.Tie as tie
+use Rattle.effect.proofs.number_owed.Statement.{statement}
+use Rattle.effect.proofs.number_owed.Tie as tie
 
 word-requires : tie.Need-word-requires
 word-requires c κs =
