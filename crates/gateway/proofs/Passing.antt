@@ -38,7 +38,7 @@ use Rattle.book.proofs.Owner.{whose-at}
 use Rattle.order.specs.Order.{fitBook, roomy, lineNumber, packetLine, isSomebody, lineAt, addressTests, arrivalTests}
 use Rattle.order.specs.declared.MayArrive.{MayArrive}
 use Rattle.order.specs.declared.MayArrive.the-variants as arrives
-use Rattle.order.proofs.Arrivals.{told}
+use Rattle.admit.proofs.Arrivals.{told}
 use Rattle.order.proofs.Firsts.{OnLine, both-passed}
 
 abbrev whySend : MaySend → Verdict

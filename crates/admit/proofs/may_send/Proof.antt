@@ -11,8 +11,8 @@ use Rattle.ground.specs.Refusal.{settle}
 use mathlib.Core.List.{[], _∷_}
 use mathlib.Core.Path.{sym, ap, _∙_}
 use borrow.Author.Needs.{needs}
-use Rattle.order.proofs.may_send.Statement.{statement}
-use Rattle.order.proofs.may_send.Tie as tie
+use Rattle.admit.proofs.may_send.Statement.{statement}
+use Rattle.admit.proofs.may_send.Tie as tie
 
 on-both-requires : tie.Need-on-both-requires
 on-both-requires c κs = search needs

@@ -8,8 +8,8 @@ use Rattle.ground.specs.Refusal.{verdict}
 use mathlib.Core.List.{[], _∷_}
 use mathlib.Core.Path.{sym, ap, _∙_}
 use borrow.Author.Needs.{needs}
-use Rattle.order.proofs.may_report.Statement.{statement}
-use Rattle.order.proofs.may_report.Tie as tie
+use Rattle.admit.proofs.may_report.Statement.{statement}
+use Rattle.admit.proofs.may_report.Tie as tie
 
 on-line-requires : tie.Need-on-line-requires
 on-line-requires c κs = search needs

@@ -1,11 +1,11 @@
-use Rattle.order.proofs.Arrivals.{head-passes, head-refuses, head-is, address-refused, address-at, address-nobody}
+use Rattle.admit.proofs.Arrivals.{head-passes, head-refuses, head-is, address-refused, address-at, address-nobody}
 use denote.Ref.{now}
 use Rattle.book.specs.Book.{whose}
 use Rattle.packet.specs.declared.Head.{Head}
 use mathlib.Core.Path.{sym, ap, _∙_}
 use borrow.Author.Needs.{needs}
-use Rattle.order.proofs.addressed.Statement.{statement}
-use Rattle.order.proofs.addressed.Tie as tie
+use Rattle.admit.proofs.addressed.Statement.{statement}
+use Rattle.admit.proofs.addressed.Tie as tie
 
 read-head-requires : tie.Need-read-head-requires
 read-head-requires c κs = search needs
