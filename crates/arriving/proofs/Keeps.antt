@@ -18,13 +18,13 @@ use Rattle.packet.specs.Read.{headAt, acksAt, payloadOf}
 use Rattle.channel.specs.Channel.{windowOf}
 use Rattle.channel.specs.Distance.{dist}
 use Rattle.channel.specs.Sizes.{sizeFits}
-use Rattle.channel.specs.Sending.{underWay, heardBase, ackedBy}
-use Rattle.channel.specs.Receiving.{receivingFits, arrivalPlace, storedAt, arrivedAs}
-use Rattle.channel.specs.declared.sending.Sending.{Sending}
-use Rattle.channel.specs.declared.receiving.Receiving.{Receiving}
-use Rattle.channel.specs.declared.receiving.Arrival.{Arrival}
-use Rattle.channel.specs.declared.receiving.Arrival.the-variants.{Stored, There, Old}
-use Rattle.channel.proofs.Keeps.{arrived-keeps}
+use Rattle.sending.specs.Sending.{underWay, heardBase, ackedBy}
+use Rattle.receiving.specs.Receiving.{receivingFits, arrivalPlace, storedAt, arrivedAs}
+use Rattle.sending.specs.declared.Sending.{Sending}
+use Rattle.receiving.specs.declared.Receiving.{Receiving}
+use Rattle.receiving.specs.declared.Arrival.{Arrival}
+use Rattle.receiving.specs.declared.Arrival.the-variants.{Stored, There, Old}
+use Rattle.flow.proofs.Keeps.{arrived-keeps}
 use Rattle.owed.proofs.Steps.{enter-keeps, word-span}
 use Rattle.mode.specs.declared.Modes.{Modes}
 use Rattle.line.specs.Line.{sendingOf, receivingOf, withReceiving}
@@ -37,9 +37,11 @@ use Rattle.store.specs.Store.{regionOf, roomAt}
 use Rattle.store.specs.declared.Region.{Region}
 use Rattle.store.specs.declared.Way.the-variants as way
 use Rattle.relay.specs.Asked.{reliable}
-use Rattle.arriving.specs.Arrive.{arriveTests, Relaying, heardLine, ackedLine, ackedAll, owingLine, arrivalAt, storedLine, putAs, storedStore, newsLine, carries, arrivedLine, arrivedStore}
-use Rattle.arriving.proofs.Stays.{stored-stays}
-use Rattle.arriving.proofs.Arrivals.{narrow, reliable-span, ok, news-relaying, number-lt, arrive-relaying, arrive-size, arrive-reliable}
+use Rattle.effect.specs.Effect.{Relaying, heardLine, ackedLine, ackedAll, owingLine, arrivalAt, storedLine, putAs, storedStore}
+use Rattle.arriving.specs.Arrive.{arriveTests, newsLine, carries, arrivedLine, arrivedStore}
+use Rattle.effect.proofs.Stays.{stored-stays}
+use Rattle.effect.proofs.Effects.{narrow, reliable-span, ok}
+use Rattle.arriving.proofs.Arrivals.{news-relaying, number-lt, arrive-relaying, arrive-size, arrive-reliable}
 
 -- no step changes how many sizes a side has
 heard-sizes : (w : ℕ) (s : Sending) (b : ℕ) → heardBase w s b .sizes ≡ s .sizes

@@ -1,4 +1,1 @@
-pub mod Decisions
 pub mod Distances
-pub mod Keeps
-pub mod Sized

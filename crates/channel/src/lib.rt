@@ -1,22 +1,14 @@
-// One reliable channel's two sides, by value (document 01, 'Packets'): what is taken and held, what is stored and handed out.
-// Windows and the largest message are parameters, each way its own. Octets lie in the store; lines, packets and the owed list
-// are left to others.
+// What the two sides of a reliable channel share (document 01, 'Packets'): its windows, how far a number lies past another, where
+// a message lies, and which sizes fit. The sides themselves, octets, lines and packets are left to others.
 ghost use mathlib.Core.Path.{_≡_};
 ghost use Prim.Native.Nat.{_+_, _^_, _<_};
 ghost use Rattle.channel.specs.Channel.{channelOf};
 ghost use Rattle.channel.specs.Distance.{dist, placeOf};
 
-mod receiving;
-mod sending;
 mod sizes;
 
-pub use receiving::Arrival;
-pub use receiving::Receiving;
-pub use sending::Acknowledged;
-pub use sending::Held;
-pub use sending::Ranked;
-pub use sending::Sending;
 pub use sizes::size_fits;
+pub use sizes::sizes_fit;
 
 // What is settled of a channel before it is used.
 pub struct Channel {

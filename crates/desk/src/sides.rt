@@ -2,10 +2,10 @@
 // lies at the place of its number less the window as often as that goes, as the library has it, which `first` says of h and of R.
 ghost use Prim.Native.Nat.{_≤_, _<_};
 use crate::record::Spoilt;
-use channel::Receiving;
-use channel::Sending;
 use line::Line;
 use places::Places;
+use receiving::Receiving;
+use sending::Sending;
 use store::Region;
 use store::Way;
 

@@ -7,11 +7,11 @@ use lib.Dec.{ltb, leb}
 use Rattle.ground.specs.Pick.{pick}
 use Rattle.channel.specs.Channel.{modulus}
 use Rattle.places.specs.Places.{maskOf, bitOf}
-use Rattle.channel.specs.Receiving.{arrivalOf}
-use Rattle.channel.specs.Sending.{underWay, movedBy, heardBase, droppedAt, ackedBy, namedBy}
-use Rattle.channel.specs.declared.receiving.Arrival.the-variants.{Stored, There, Old}
-use Rattle.channel.specs.declared.receiving.Receiving.{Receiving}
-use Rattle.channel.specs.declared.sending.Sending.{Sending}
+use Rattle.receiving.specs.Receiving.{arrivalOf}
+use Rattle.sending.specs.Sending.{underWay, movedBy, heardBase, droppedAt, ackedBy, namedBy}
+use Rattle.receiving.specs.declared.Arrival.the-variants.{Stored, There, Old}
+use Rattle.receiving.specs.declared.Receiving.{Receiving}
+use Rattle.sending.specs.declared.Sending.{Sending}
 use Rattle.channel.proofs.Distances.{dist-field}
 
 pub heard-field : (w : ℕ) (s : Sending) (b : ℕ) → heardBase w s (b % modulus) ≡ heardBase w s b

@@ -1,5 +1,8 @@
+pub mod Decisions
 pub mod Fields
 pub mod Flows
+pub mod Keeps
 pub mod Messages
 pub mod Moves
 pub mod OneWay
+pub mod Sized

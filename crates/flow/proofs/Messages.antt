@@ -19,7 +19,7 @@ use Rattle.places.specs.Places.{bitOf, withBit, withoutBit}
 use Rattle.flow.specs.View.{Rooms, messageAt, messageOf, PutAt, Roomy}
 use Rattle.places.proofs.Bits.{bit-past, bit-dropped, with-same, with-other, without-same, without-other}
 use Rattle.channel.proofs.Distances.{place-lt, place-once, place-stays}
-use Rattle.channel.proofs.Sized.{Sized}
+use Rattle.flow.proofs.Sized.{Sized}
 
 -- a list that is not empty is a message
 pub full-of : (x : Message) → 0 < length x → Full x

@@ -19,17 +19,17 @@ use Rattle.channel.specs.Channel.{modulus}
 use Rattle.channel.specs.Distance.{dist, placeOf}
 use Rattle.flow.specs.Flow.{Message, Full, first, Took, Heard, Acked, Arrived, Handed}
 use Rattle.places.specs.Places.{maskOf, bitOf, withBit}
-use Rattle.channel.specs.Receiving.{ReceivingOk, arrivalOf, arrivedAs, storedAt, handedOut}
-use Rattle.channel.specs.Sending.{SendingOk, underWay, nextPlace, tookOne, movedBy, heardBase, droppedAt, ackedBy}
+use Rattle.receiving.specs.Receiving.{ReceivingOk, arrivalOf, arrivedAs, storedAt, handedOut}
+use Rattle.sending.specs.Sending.{SendingOk, underWay, nextPlace, tookOne, movedBy, heardBase, droppedAt, ackedBy}
 use Rattle.flow.specs.View.{Rooms, messageOf, sends, receives, PutAt, PutAs, Roomy}
-use Rattle.channel.specs.declared.receiving.Arrival.{Arrival}
-use Rattle.channel.specs.declared.receiving.Receiving.{Receiving}
-use Rattle.channel.specs.declared.sending.Sending.{Sending}
+use Rattle.receiving.specs.declared.Arrival.{Arrival}
+use Rattle.receiving.specs.declared.Receiving.{Receiving}
+use Rattle.sending.specs.declared.Sending.{Sending}
 use Rattle.places.proofs.Bits.{with-lt}
 use Rattle.channel.proofs.Distances.{dist-up, dist-down}
 use Rattle.flow.proofs.Flows.{first-old}
 use Rattle.flow.proofs.Messages.{message-none, message-past, message-full, message-without, message-kept, message-new, message-old, message-moved}
-use Rattle.channel.proofs.Sized.{Sized}
+use Rattle.flow.proofs.Sized.{Sized}
 
 -- A number that a packet names, against the oldest one of a window: in it by 14 bits is in it.
 module _ (w stale h S : ℕ) (wide : w + stale ≤ modulus) (a : h ≤ S) (g : S ≤ h + w) (n : ℕ) (l : n < S) (fresh : S ≤ n + stale) where

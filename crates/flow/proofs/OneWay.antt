@@ -13,18 +13,18 @@ use Rattle.channel.specs.Channel.{modulus}
 use Rattle.channel.specs.Distance.{placeOf}
 use Rattle.flow.specs.Flow.{Message, Full, Have, Flow, Data, waiting}
 use Rattle.places.specs.Places.{maskOf, bitOf, rankOf}
-use Rattle.channel.specs.Receiving.{ReceivingOk, arrivalOf, arrivedAs, nextSize, handedOut}
-use Rattle.channel.specs.Sending.{SendingOk, underWay, nextPlace, tookOne, heardBase, ackedBy}
+use Rattle.receiving.specs.Receiving.{ReceivingOk, arrivalOf, arrivedAs, nextSize, handedOut}
+use Rattle.sending.specs.Sending.{SendingOk, underWay, nextPlace, tookOne, heardBase, ackedBy}
 use Rattle.flow.specs.View.{Rooms, messageAt, messageOf, sends, receives, PutAt, PutAs, Roomy}
 use Rattle.places.specs.declared.Place.the-variants.{At}
-use Rattle.channel.specs.declared.receiving.Receiving.{Receiving}
-use Rattle.channel.specs.declared.sending.Sending.{Sending}
+use Rattle.receiving.specs.declared.Receiving.{Receiving}
+use Rattle.sending.specs.declared.Sending.{Sending}
 use Rattle.flow.proofs.Fields.{heard-field, acked-field, arrival-field}
 use Rattle.flow.proofs.Flows.{take-flow, base-flow, ack-flow, arrive-flow, hand-flow, taken-all}
 use Rattle.flow.proofs.Messages.{full-of, message-in, message-full}
 use Rattle.flow.proofs.Moves.{took-moves, heard-moves, acked-moves, arrived-moves, handed-moves}
 use Rattle.places.proofs.Ranks.{rank-holds, rank-below}
-use Rattle.channel.proofs.Sized.{Sized}
+use Rattle.flow.proofs.Sized.{Sized}
 
 -- message R, as it is handed out, is the one that the view shows
 pub next-message : (w : ℕ) (room : Rooms) (r : Receiving) → r .first < w → bitOf (maskOf (r .stored)) 0 ≡ true

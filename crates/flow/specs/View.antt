@@ -10,11 +10,11 @@ use Rattle.ground.specs.Pick.{pick}
 use Rattle.channel.specs.Distance.{placeOf}
 use Rattle.flow.specs.Flow.{Message, Sends, Receives}
 use Rattle.places.specs.Places.{maskOf, bitOf}
-use Rattle.channel.specs.Receiving.{arrivalPlace}
-use Rattle.channel.specs.declared.receiving.Arrival.{Arrival}
-use Rattle.channel.specs.declared.receiving.Arrival.the-variants.{Stored, There, Old}
-use Rattle.channel.specs.declared.receiving.Receiving.{Receiving}
-use Rattle.channel.specs.declared.sending.Sending.{Sending}
+use Rattle.receiving.specs.Receiving.{arrivalPlace}
+use Rattle.receiving.specs.declared.Arrival.{Arrival}
+use Rattle.receiving.specs.declared.Arrival.the-variants.{Stored, There, Old}
+use Rattle.receiving.specs.declared.Receiving.{Receiving}
+use Rattle.sending.specs.declared.Sending.{Sending}
 
 -- the octets in the room of each place
 abbrev pub Rooms : Type 0

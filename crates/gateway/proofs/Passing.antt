@@ -14,8 +14,8 @@ use Rattle.ground.specs.declared.Verdict.{Verdict}
 use Rattle.ground.specs.declared.Verdict.the-variants.{Pass, Refuse}
 use Rattle.ground.proofs.Verdicts.{passed, pass-both}
 use Rattle.packet.specs.Read.{headAt, headTests}
-use Rattle.channel.specs.Receiving.{nextSize}
-use Rattle.channel.specs.declared.sending.Held.{Held}
+use Rattle.receiving.specs.Receiving.{nextSize}
+use Rattle.sending.specs.declared.Held.{Held}
 use Rattle.line.specs.Fit.{lineFits}
 use Rattle.line.specs.Line.{receivingOf}
 use Rattle.line.specs.declared.Line.{Line}
@@ -38,7 +38,7 @@ use Rattle.book.proofs.Owner.{whose-at}
 use Rattle.order.specs.Order.{fitBook, roomy, lineNumber, packetLine, isSomebody, lineAt, addressTests, arrivalTests}
 use Rattle.order.specs.declared.MayArrive.{MayArrive}
 use Rattle.order.specs.declared.MayArrive.the-variants as arrives
-use Rattle.order.proofs.Arrivals.{told}
+use Rattle.admit.proofs.Arrivals.{told}
 use Rattle.order.proofs.Firsts.{OnLine, both-passed}
 
 abbrev whySend : MaySend → Verdict

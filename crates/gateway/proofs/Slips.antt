@@ -13,9 +13,9 @@ use Rattle.ground.specs.declared.Verdict.the-variants.{Pass}
 use Rattle.ground.proofs.Picks.{each, together}
 use Rattle.ground.proofs.Verdicts.{passed, passes}
 use Rattle.slip.specs.Slip.{slipFits, writeTests}
-use Rattle.channel.specs.Receiving.{receivingFits}
-use Rattle.channel.specs.declared.receiving.Receiving.{Receiving}
-use Rattle.channel.proofs.Keeps.{receiving-ok}
+use Rattle.receiving.specs.Receiving.{receivingFits}
+use Rattle.receiving.specs.declared.Receiving.{Receiving}
+use Rattle.flow.proofs.Keeps.{receiving-ok}
 use Rattle.places.specs.Places.{widest}
 use Rattle.mode.specs.Moved.{ended}
 use Rattle.line.specs.Fit.{largest, lineFits}

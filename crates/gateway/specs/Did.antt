@@ -9,7 +9,7 @@ use Rattle.ground.specs.Answer.{Answer, accepted, refused}
 use Rattle.slip.specs.Slip.{slipOctets}
 use Rattle.slip.specs.declared.Slip.{Slip}
 use Rattle.channel.specs.Channel.{modulus}
-use Rattle.channel.specs.Sending.{heldCount}
+use Rattle.sending.specs.Sending.{heldCount}
 use Rattle.mode.specs.Moved.{ended}
 use Rattle.mode.specs.Acts.{outcome}
 use Rattle.ground.specs.Pick.{pick, bit}

@@ -220,7 +220,7 @@ pub fn tick(book: Book, line: u8, time: u64) -> Ticks
 pub fn take(book: Book, store: &mut [u8], line: u8, channel: u8, message: &[u8]) -> Took
     ensures { λ r. ⌜ ((out : List ℕ) → made (takenSays (r .answer)) (r .book) (now (store .exit)) out ≡ did (call.taking line channel (now (message .entry))) book (now (store .entry)) out) ⌝ }
 {
-    let verdict = order::may_take(book, store.len(), line, channel, message.len());
+    let verdict = admit::may_take(book, store.len(), line, channel, message.len());
     match verdict {
         Verdict::Refuse(r) => Took {
             book,
@@ -244,7 +244,7 @@ pub fn take(book: Book, store: &mut [u8], line: u8, channel: u8, message: &[u8])
 pub fn send(book: Book, store: &[u8], line: u8, channel: u8, rank: u8, out: &mut [u8]) -> Gave
     ensures { λ r. ⌜ made (writtenAnswer (r .answer)) (r .book) (now (store .entry)) (now (out .exit)) ≡ did (call.sending line channel rank) book (now (store .entry)) (now (out .entry)) ⌝ }
 {
-    let may = order::may_send(book, store.len(), line, channel, rank, out.len());
+    let may = admit::may_send(book, store.len(), line, channel, rank, out.len());
     match may {
         MaySend::Refused(r) => Gave {
             book,
@@ -264,7 +264,7 @@ pub fn send(book: Book, store: &[u8], line: u8, channel: u8, rank: u8, out: &mut
 pub fn empty(book: Book, line: u8, channel: u8, out: &mut [u8]) -> Gave
     ensures { λ r. ⌜ ((store : List ℕ) → made (writtenAnswer (r .answer)) (r .book) store (now (out .exit)) ≡ did (call.empty line channel) book store (now (out .entry))) ⌝ }
 {
-    let verdict = order::may_write_empty(book, line, channel, out.len());
+    let verdict = admit::may_write_empty(book, line, channel, out.len());
     match verdict {
         Verdict::Refuse(r) => Gave {
             book,
@@ -284,7 +284,7 @@ pub fn empty(book: Book, line: u8, channel: u8, out: &mut [u8]) -> Gave
 pub fn arrive(book: Book, store: &mut [u8], packet: &[u8]) -> Came
     ensures { λ r. ⌜ ((out : List ℕ) → made (arrivedSays (r .answer)) (r .book) (now (store .exit)) out ≡ did (call.arrival (now (packet .entry))) book (now (store .entry)) out) ⌝ }
 {
-    let may = order::may_arrive(book, store.len(), packet);
+    let may = admit::may_arrive(book, store.len(), packet);
     match may {
         MayArrive::Refused(r) => Came {
             book,
@@ -306,7 +306,7 @@ pub fn arrive(book: Book, store: &mut [u8], packet: &[u8]) -> Came
 pub fn hand_out(book: Book, store: &[u8], line: u8, channel: u8, out: &mut [u8]) -> Gave
     ensures { λ r. ⌜ made (writtenAnswer (r .answer)) (r .book) (now (store .entry)) (now (out .exit)) ≡ did (call.handOut line channel) book (now (store .entry)) (now (out .entry)) ⌝ }
 {
-    let verdict = order::may_hand_out(book, store.len(), line, channel, out.len());
+    let verdict = admit::may_hand_out(book, store.len(), line, channel, out.len());
     match verdict {
         Verdict::Refuse(r) => Gave {
             book,
@@ -329,7 +329,7 @@ pub fn hand_out(book: Book, store: &[u8], line: u8, channel: u8, out: &mut [u8])
 pub fn held(book: Book, line: u8, channel: u8) -> Report
     ensures { λ r. ⌜ ((store out : List ℕ) → made (reportSays r) book store out ≡ did (call.report line channel) book store out) ⌝ }
 {
-    let verdict = order::may_report(book, line, channel);
+    let verdict = admit::may_report(book, line, channel);
     match verdict {
         Verdict::Refuse(r) => Report::Refused(r),
         Verdict::Pass => Report::Holds(relay::held(book.line(line), channel)),

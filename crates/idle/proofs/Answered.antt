@@ -16,13 +16,14 @@ use Rattle.packet.specs.Read.{headAt, acksAt, payloadOf}
 use Rattle.packet.specs.declared.Head.{Head}
 use Rattle.channel.specs.Channel.{modulus}
 use Rattle.channel.specs.Distance.{dist}
-use Rattle.channel.specs.Sending.{heardBase, ackedBy, underWay}
-use Rattle.channel.specs.declared.sending.Sending.{Sending}
+use Rattle.sending.specs.Sending.{heardBase, ackedBy, underWay}
+use Rattle.sending.specs.declared.Sending.{Sending}
 use Rattle.flow.specs.Flow.{Full}
 use Rattle.line.specs.Line.{receivingOf, withSides}
 use Rattle.line.specs.declared.Line.{Line}
 use Rattle.writing.specs.Write.{baseFor, headFor}
-use Rattle.arriving.specs.Arrive.{heardLine, ackedLine, ackedAll, newsLine, arrivedLine}
+use Rattle.effect.specs.Effect.{heardLine, ackedLine, ackedAll}
+use Rattle.arriving.specs.Arrive.{newsLine, arrivedLine}
 use Rattle.arriving.proofs.Arrivals.{news-all, payload-length}
 use Rattle.book.specs.Book.{lineOf}
 use Rattle.order.specs.Call.{Call}

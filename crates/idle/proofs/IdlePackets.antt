@@ -16,8 +16,8 @@ use Rattle.packet.specs.Acks.{acksServed}
 use Rattle.packet.specs.Read.{headAt, numberAt, baseAt, acksAt, ackAt, payloadOf}
 use Rattle.packet.specs.Read as packet
 use Rattle.packet.specs.declared.Head.{Head}
-use Rattle.channel.specs.Sending.{tookOne, sendingFits}
-use Rattle.channel.specs.Receiving.{receivingFits}
+use Rattle.sending.specs.Sending.{tookOne, sendingFits}
+use Rattle.receiving.specs.Receiving.{receivingFits}
 use Rattle.channel.specs.Sizes as sizes
 use Rattle.owed.specs.Owed.{member, noTwice, allSpans, owedFits}
 use Rattle.mode.specs.Fit.{modesFit}

@@ -14,8 +14,8 @@ use Rattle.packet.specs.Read.{headAt, numberAt, baseAt, acksAt, ackAt, payloadO
 use Rattle.packet.specs.Read as reading
 use Rattle.packet.specs.Write.{packetOctets}
 use Rattle.places.specs.Places.{setBelow, lowest, rankOf}
-use Rattle.channel.specs.Sending.{tookOne, heardBase, ackedBy, heldOf, sendingFits}
-use Rattle.channel.specs.Receiving.{arrivalOf, storedAt, receivingFits}
+use Rattle.sending.specs.Sending.{tookOne, heardBase, ackedBy, heldOf, sendingFits}
+use Rattle.receiving.specs.Receiving.{arrivalOf, storedAt, receivingFits}
 use Rattle.channel.specs.Sizes as sizes
 use Rattle.owed.specs.Owed.{member, enters, entered, firstThree, withoutThree, noTwice, allSpans, owedFits}
 use Rattle.mode.specs.Fit.{modesFit}
@@ -29,7 +29,8 @@ use Rattle.relay.specs.Take.{takeCallTests}
 use Rattle.writing.specs.Write.{acksFor, wroteLine, baseFor, emptyTests}
 use Rattle.writing.specs.Write as writes
 use Rattle.writing.specs.Send.{sendTests, heldPacket}
-use Rattle.arriving.specs.Arrive.{arriveTests, heardLine, ackedLine, ackedAll, storedLine, storedStore, newsLine, arrivedLine, arrivedStore}
+use Rattle.effect.specs.Effect.{heardLine, ackedLine, ackedAll, storedLine, storedStore}
+use Rattle.arriving.specs.Arrive.{arriveTests, newsLine, arrivedLine, arrivedStore}
 use Rattle.book.specs.Book.{openIn, linesFit, allSpan, bookFits, whoseFrom}
 use Rattle.order.specs.Call.{Call}
 use Rattle.order.specs.Call as call

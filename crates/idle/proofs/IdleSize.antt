@@ -16,11 +16,11 @@ use Rattle.ground.proofs.Verdicts.{passed}
 use Rattle.places.specs.Places.{maskOf, bitOf}
 use Rattle.packet.specs.Read.{headAt}
 use Rattle.channel.specs.Channel.{windowOf}
-use Rattle.channel.specs.Sending.{sendingFits}
-use Rattle.channel.specs.Receiving.{receivingFits}
+use Rattle.sending.specs.Sending.{sendingFits}
+use Rattle.receiving.specs.Receiving.{receivingFits}
 use Rattle.channel.specs.Sizes as sizes
-use Rattle.channel.specs.declared.receiving.Receiving.{Receiving}
-use Rattle.channel.proofs.Keeps.{receiving-sized}
+use Rattle.receiving.specs.declared.Receiving.{Receiving}
+use Rattle.flow.proofs.Keeps.{receiving-sized}
 use Rattle.flow.specs.Flow.{Full}
 use Rattle.flow.specs.View.{messageOf}
 use Rattle.flow.proofs.Messages.{message-full}

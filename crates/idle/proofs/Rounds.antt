@@ -11,7 +11,7 @@ use lib.ListN.{length, take, replicate, length-append}
 use Rattle.packet.specs.Read.{headAt}
 use Rattle.packet.specs.declared.Head.{Head}
 use Rattle.channel.specs.Channel.{modulus}
-use Rattle.channel.specs.Sending.{tookOne}
+use Rattle.sending.specs.Sending.{tookOne}
 use Rattle.flow.specs.Flow.{Message, Full}
 use Rattle.line.specs.Line.{receivingOf}
 use Rattle.line.specs.declared.Line.{Line}

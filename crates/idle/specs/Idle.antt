@@ -13,8 +13,8 @@ use Rattle.packet.specs.Read.{headAt}
 use Rattle.places.specs.Places.{maskOf, rankOf}
 use Rattle.places.specs.declared.Place.{Place}
 use Rattle.places.specs.declared.Place.the-variants.{At, Missing}
-use Rattle.channel.specs.Sending.{underWay, movedBy}
-use Rattle.channel.specs.declared.sending.Sending.{Sending}
+use Rattle.sending.specs.Sending.{underWay, movedBy}
+use Rattle.sending.specs.declared.Sending.{Sending}
 use Rattle.line.specs.Line.{receivingOf, withSides}
 use Rattle.line.specs.declared.Line.{Line}
 use Rattle.book.specs.Book.{lineOf, withLine, openIn}

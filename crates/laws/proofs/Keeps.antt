@@ -12,7 +12,7 @@ use Rattle.ground.specs.declared.Verdict.the-variants.{Pass}
 use Rattle.ground.proofs.Settled.{settled-by}
 use Rattle.ground.proofs.Verdicts.{passed}
 use Rattle.channel.specs.Channel.{windowOf}
-use Rattle.channel.specs.Sending.{nextPlace}
+use Rattle.sending.specs.Sending.{nextPlace}
 use Rattle.mode.specs.Moved.{channelsFor}
 use Rattle.mode.specs.Acts.{Act, outcome, after}
 use Rattle.mode.specs.declared.Channels.{Channels}

@@ -28,7 +28,7 @@ use Rattle.order.specs.Order.{tests, lineFor, openTests, closeTests, modeTests,
 use Rattle.order.specs.declared.MayArrive.{MayArrive}
 use Rattle.order.specs.declared.MayArrive.the-variants as may
 use Rattle.order.proofs.Firsts.{OnLine, line-passed, both-passed}
-use Rattle.order.proofs.Arrivals.{addressed-owner}
+use Rattle.admit.proofs.Arrivals.{addressed-owner}
 use Rattle.gateway.proofs.Passing.{addressed}
 
 -- a packet finds its line, which is open, by its identifier

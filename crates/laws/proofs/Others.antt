@@ -15,10 +15,10 @@ use Rattle.ground.proofs.Picks.{pick-by}
 use Rattle.ground.proofs.Settled.{settled-by}
 use Rattle.packet.specs.Read.{headAt, payloadOf}
 use Rattle.channel.specs.Channel.{windowOf}
-use Rattle.channel.specs.Sending.{nextPlace}
-use Rattle.channel.specs.Receiving.{arrivalPlace}
-use Rattle.channel.specs.declared.receiving.Arrival.{Arrival}
-use Rattle.channel.specs.declared.receiving.Arrival.the-variants.{Stored, There, Old}
+use Rattle.sending.specs.Sending.{nextPlace}
+use Rattle.receiving.specs.Receiving.{arrivalPlace}
+use Rattle.receiving.specs.declared.Arrival.{Arrival}
+use Rattle.receiving.specs.declared.Arrival.the-variants.{Stored, There, Old}
 use Rattle.line.specs.Fit.{largest}
 use Rattle.line.specs.Line.{sendingOf, receivingOf}
 use Rattle.line.specs.declared.Line.{Line}
@@ -31,8 +31,10 @@ use Rattle.store.proofs.Rooms.{Whose, Served, region, region-end, regions-apart
 use Rattle.relay.specs.Asked.{reliable}
 use Rattle.relay.specs.Take.{takeCallTests}
 use Rattle.relay.proofs.Lines.{channel-span, region-places, region-size, take-reliable, take-size, take-place}
-use Rattle.arriving.specs.Arrive.{Relaying, arriveTests, arrivalAt, putAs, storedStore, carries, arrivedStore}
-use Rattle.arriving.proofs.Arrivals.{stored-near, place-near, arrive-relaying, arrive-size, arrive-reliable}
+use Rattle.effect.specs.Effect.{Relaying, arrivalAt, putAs, storedStore}
+use Rattle.arriving.specs.Arrive.{arriveTests, carries, arrivedStore}
+use Rattle.effect.proofs.Effects.{stored-near, place-near}
+use Rattle.arriving.proofs.Arrivals.{arrive-relaying, arrive-size, arrive-reliable}
 use Rattle.book.specs.Book.{lineOf}
 use Rattle.book.specs.Shape.{BookShaped}
 use Rattle.book.specs.declared.Book.{Book}

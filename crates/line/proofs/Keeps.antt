@@ -9,11 +9,11 @@ use Rattle.ground.specs.Pick.{pick}
 use Rattle.ground.proofs.Picks.{each, together, pick-by}
 use Rattle.ground.proofs.Either.{or-second, or-either}
 use Rattle.channel.specs.Channel.{windowOf}
-use Rattle.channel.specs.Sending.{sendingFits, emptiedSending}
-use Rattle.channel.specs.Receiving.{receivingFits, emptiedReceiving}
-use Rattle.channel.specs.declared.sending.Sending.{Sending}
-use Rattle.channel.specs.declared.receiving.Receiving.{Receiving}
-use Rattle.channel.proofs.Keeps.{fresh-sending, fresh-receiving, emptied-keeps, cleared-keeps}
+use Rattle.sending.specs.Sending.{sendingFits, emptiedSending}
+use Rattle.receiving.specs.Receiving.{receivingFits, emptiedReceiving}
+use Rattle.sending.specs.declared.Sending.{Sending}
+use Rattle.receiving.specs.declared.Receiving.{Receiving}
+use Rattle.flow.proofs.Keeps.{fresh-sending, fresh-receiving, emptied-keeps, cleared-keeps}
 use Rattle.mode.specs.Given.{modem}
 use Rattle.mode.specs.Fit.{modesFit}
 use Rattle.mode.specs.Moved.{channelsFor}

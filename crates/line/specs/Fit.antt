@@ -6,8 +6,8 @@ use mathlib.Core.List.{List, [], _∷_}
 use lib.Dec.{leb, eqb}
 use Rattle.ground.specs.Pick.{pick, allHold}
 use Rattle.channel.specs.Channel.{windowOf}
-use Rattle.channel.specs.Sending.{sendingFits}
-use Rattle.channel.specs.Receiving.{receivingFits}
+use Rattle.sending.specs.Sending.{sendingFits}
+use Rattle.receiving.specs.Receiving.{receivingFits}
 use Rattle.mode.specs.Given.{modem}
 use Rattle.mode.specs.Fit.{modesFit}
 use Rattle.owed.specs.Owed.{owedFits}

@@ -4,10 +4,10 @@ use Prim.Native.Nat.{ℕ}
 use mathlib.Core.Bool.{true, false}
 use lib.Dec.{eqb}
 use Rattle.ground.specs.Pick.{pick}
-use Rattle.channel.specs.Sending.{freshSending}
-use Rattle.channel.specs.Receiving.{freshReceiving}
-use Rattle.channel.specs.declared.sending.Sending.{Sending}
-use Rattle.channel.specs.declared.receiving.Receiving.{Receiving}
+use Rattle.sending.specs.Sending.{freshSending}
+use Rattle.receiving.specs.Receiving.{freshReceiving}
+use Rattle.sending.specs.declared.Sending.{Sending}
+use Rattle.receiving.specs.declared.Receiving.{Receiving}
 use Rattle.mode.specs.Moved.{openedModes, closedModes}
 use Rattle.owed.specs.Owed.{freshOwed}
 use Rattle.line.specs.declared.Line.{Line}

@@ -1,9 +1,9 @@
 -- What a change of mode does to a line: document 01, 'Media modes'.
 -- Assumes nothing.
-use Rattle.channel.specs.Sending.{freshSending, emptiedSending}
-use Rattle.channel.specs.Receiving.{freshReceiving, emptiedReceiving}
-use Rattle.channel.specs.declared.sending.Sending.{Sending}
-use Rattle.channel.specs.declared.receiving.Receiving.{Receiving}
+use Rattle.sending.specs.Sending.{freshSending, emptiedSending}
+use Rattle.receiving.specs.Receiving.{freshReceiving, emptiedReceiving}
+use Rattle.sending.specs.declared.Sending.{Sending}
+use Rattle.receiving.specs.declared.Receiving.{Receiving}
 use Rattle.mode.specs.declared.Modes.{Modes}
 use Rattle.mode.specs.declared.Channels.{Channels}
 use Rattle.mode.specs.declared.Channels.the-variants.{Stay, Fresh, Emptied}

@@ -6,11 +6,11 @@ ghost use Rattle.line.specs.Line.{closedLine, openedLine, sendingOf, wit
 ghost use Rattle.line.specs.Fit.{settingsFit, idle, lineFits};
 ghost use Rattle.line.specs.Mode.{steppedTo};
 use channel::Channel;
-use channel::Receiving;
-use channel::Sending;
 use mode::Channels;
 use mode::Modes;
 use owed::Owed;
+use receiving::Receiving;
+use sending::Sending;
 
 // What opening names, besides the line and the time.
 pub struct Settings {

@@ -21,13 +21,13 @@ use Rattle.places.proofs.Ranks.{rank-found, rank-of}
 use Rattle.channel.specs.Channel.{windowOf, cap}
 use Rattle.channel.specs.Distance.{placeOf}
 use Rattle.channel.specs.Sizes.{sizeFits}
-use Rattle.channel.specs.Receiving.{nextSize}
-use Rattle.channel.specs.Sending.{heldCount, heldAt, heldOf, takeTests}
-use Rattle.channel.specs.declared.receiving.Receiving.{Receiving}
-use Rattle.channel.specs.declared.sending.Held.{Held}
-use Rattle.channel.specs.declared.sending.Ranked.{Ranked}
-use Rattle.channel.specs.declared.sending.Ranked.the-variants.{Is}
-use Rattle.channel.proofs.Keeps.{receiving-sized}
+use Rattle.receiving.specs.Receiving.{nextSize}
+use Rattle.sending.specs.Sending.{heldCount, heldAt, heldOf, takeTests}
+use Rattle.receiving.specs.declared.Receiving.{Receiving}
+use Rattle.sending.specs.declared.Held.{Held}
+use Rattle.sending.specs.declared.Ranked.{Ranked}
+use Rattle.sending.specs.declared.Ranked.the-variants.{Is}
+use Rattle.flow.proofs.Keeps.{receiving-sized}
 use Rattle.flow.specs.Flow.{Message, Full}
 use Rattle.line.specs.Fit.{largest, lineFits}
 use Rattle.line.specs.Line.{sendingOf, receivingOf}
@@ -41,7 +41,7 @@ use Rattle.writing.specs.Write.{headerFor, emptyTests}
 use Rattle.writing.specs.Send.{ranked, heldIn, sendTests, sentLength}
 use Rattle.writing.proofs.Packets.{acks-few}
 use Rattle.writing.proofs.Sends.{send-may, may-passed, may-sendable, send-size}
-use Rattle.arriving.proofs.Arrivals.{narrow}
+use Rattle.effect.proofs.Effects.{narrow}
 use Rattle.book.proofs.Facts.{line-fits}
 use Rattle.order.specs.Call as call
 use Rattle.order.specs.Order.{tests, fitBook, roomy, lineNumber}

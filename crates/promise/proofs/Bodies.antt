@@ -20,15 +20,15 @@ use Rattle.connect.specs.Write.{connectOctets}
 use Rattle.connect.specs.Write as body
 use Rattle.connect.specs.declared.Connect.{Connect}
 use Rattle.connect.specs.declared.Reading.the-variants as connectReading
-use Rattle.connect.proofs.Back as connectBack
+use Rattle.back.proofs.Connects as connectBack
 use Rattle.breaks.specs.Break.{breakAt, breakOctets}
 use Rattle.breaks.specs.Break as breaks
 use Rattle.breaks.specs.declared.Break.{Break}
 use Rattle.breaks.specs.declared.Reading.the-variants as breakReading
-use Rattle.breaks.proofs.Back as breakBack
+use Rattle.back.proofs.Breaks as breakBack
 use Rattle.slip.specs.Slip.{slipOctets}
 use Rattle.slip.specs.Slip as slip
-use Rattle.slip.proofs.Back as slipBack
+use Rattle.back.proofs.Slips as slipBack
 use Rattle.mode.specs.Moved.{ended}
 use Rattle.line.specs.declared.Line.{Line}
 use Rattle.book.proofs.Facts.{line-fits}

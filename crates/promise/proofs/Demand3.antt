@@ -9,7 +9,7 @@ use mathlib.Core.Logic.{_⊎_}
 use native.Mathlib.Omega.{arith}
 use lib.ListN.{length, getD}
 use lib.Seq.{length-take-le}
-use Rattle.channel.specs.Sending.{heldCount}
+use Rattle.sending.specs.Sending.{heldCount}
 use Rattle.flow.specs.Flow.{Full, waiting}
 use Rattle.line.specs.Fit.{largest}
 use Rattle.line.specs.Line.{sendingOf}

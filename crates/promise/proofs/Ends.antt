@@ -15,9 +15,9 @@ use Rattle.field.specs.Word.{wordOf}
 use Rattle.packet.specs.Acks.{ackList}
 use Rattle.packet.specs.Read.{headAt, acksAt, payloadOf, payloadFits, headTests, listTests}
 use Rattle.channel.specs.Channel.{modulus, windowOf}
-use Rattle.channel.specs.Sending.{SendingOk, sendingFits}
-use Rattle.channel.specs.Receiving.{ReceivingOk, receivingFits}
-use Rattle.channel.proofs.Keeps.{sending-ok, receiving-ok}
+use Rattle.sending.specs.Sending.{SendingOk, sendingFits}
+use Rattle.receiving.specs.Receiving.{ReceivingOk, receivingFits}
+use Rattle.flow.proofs.Keeps.{sending-ok, receiving-ok}
 use Rattle.flow.specs.Flow.{Message, Sends, Receives, Have, Flow, Data, Grows}
 use Rattle.owed.specs.Owed.{owedOf}
 use Rattle.line.specs.Fit.{largest, lineFits}
@@ -27,7 +27,7 @@ use Rattle.line.specs.declared.Line.{Line}
 use Rattle.line.proofs.Keeps.{line-ok, sending-side, receiving-side}
 use Rattle.mode.specs.Given.{modem}
 use Rattle.relay.specs.Asked.{reliable}
-use Rattle.arriving.proofs.Arrivals.{narrow}
+use Rattle.effect.proofs.Effects.{narrow}
 use Rattle.promise.specs.Past.{Mark, Packet, Past}
 use Rattle.promise.specs.Run.{Each, bound}
 use Rattle.promise.specs.Ends.{sendsOf, receivesOf}

@@ -9,14 +9,14 @@ use native.Mathlib.Omega.{arith}
 use lib.Dec.{lit≤}
 use lib.ListN.{length, take, drop, replicate, length-drop}
 use Rattle.ground.proofs.Every.{below-suc}
-use Rattle.channel.specs.Sending.{heldCount}
+use Rattle.sending.specs.Sending.{heldCount}
 use Rattle.flow.specs.Flow.{Sends, Full}
 use Rattle.flow.proofs.Flows.{none-or}
 use Rattle.line.specs.Line.{sendingOf}
 use Rattle.relay.specs.Asked.{reliable}
 use Rattle.writing.specs.Write.{wroteLine}
 use Rattle.writing.specs.Send.{ranked, heldIn}
-use Rattle.arriving.proofs.Arrivals.{narrow}
+use Rattle.effect.proofs.Effects.{narrow}
 use Rattle.order.specs.Call.{Call}
 use Rattle.order.specs.Call as call
 use Rattle.order.specs.Order.{lineFor}

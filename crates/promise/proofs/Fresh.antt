@@ -12,11 +12,11 @@ use lib.Pow.{pow-pos}
 use Rattle.ground.proofs.Picks.{pick-by}
 use Rattle.places.proofs.Bits.{bit-past}
 use Rattle.channel.specs.Channel.{windowOf}
-use Rattle.channel.specs.Sending.{freshSending, emptiedSending, sendingFits}
-use Rattle.channel.specs.Receiving.{freshReceiving, emptiedReceiving, receivingFits}
-use Rattle.channel.specs.declared.sending.Sending.{Sending}
-use Rattle.channel.specs.declared.receiving.Receiving.{Receiving}
-use Rattle.channel.proofs.Keeps.{fresh-sending, fresh-receiving}
+use Rattle.sending.specs.Sending.{freshSending, emptiedSending, sendingFits}
+use Rattle.receiving.specs.Receiving.{freshReceiving, emptiedReceiving, receivingFits}
+use Rattle.sending.specs.declared.Sending.{Sending}
+use Rattle.receiving.specs.declared.Receiving.{Receiving}
+use Rattle.flow.proofs.Keeps.{fresh-sending, fresh-receiving}
 use Rattle.flow.specs.Flow.{Sends, Receives, Flow, Grows}
 use Rattle.flow.specs.View.{sends, receives}
 use Rattle.flow.proofs.Messages.{message-none}
@@ -33,7 +33,7 @@ use Rattle.mode.specs.declared.Channels.the-variants.{Stay, Fresh, Emptied}
 use Rattle.store.specs.declared.Way.{Way}
 use Rattle.store.specs.declared.Way.the-variants as way
 use Rattle.relay.specs.Asked.{reliable}
-use Rattle.arriving.proofs.Arrivals.{narrow}
+use Rattle.effect.proofs.Effects.{narrow}
 use Rattle.promise.specs.Past.{Past}
 use Rattle.promise.specs.Run.{Each, none}
 use Rattle.promise.specs.Ends.{roomsOf, sendsOf, receivesOf}

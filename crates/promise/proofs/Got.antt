@@ -16,9 +16,9 @@ use Rattle.ground.proofs.Verdicts.{passed}
 use Rattle.ground.proofs.Every.{apart}
 use Rattle.places.specs.Places.{maskOf, bitOf}
 use Rattle.channel.specs.Channel.{windowOf}
-use Rattle.channel.specs.Receiving.{handTests, nextSize, handedOut}
-use Rattle.channel.specs.declared.receiving.Receiving.{Receiving}
-use Rattle.channel.proofs.Keeps.{receiving-sized}
+use Rattle.receiving.specs.Receiving.{handTests, nextSize, handedOut}
+use Rattle.receiving.specs.declared.Receiving.{Receiving}
+use Rattle.flow.proofs.Keeps.{receiving-sized}
 use Rattle.flow.specs.Flow.{Message, Full, Handed, Flow, Grows}
 use Rattle.flow.specs.View.{messageOf, receives}
 use Rattle.flow.proofs.Flows.{handed-grows}

@@ -6,8 +6,8 @@ use mathlib.Core.Bool.{true}
 use mathlib.Core.List.{List, map}
 use native.Mathlib.Omega.{arith}
 use Rattle.channel.specs.Channel.{modulus, windowOf}
-use Rattle.channel.specs.Sending.{heardBase, ackedBy}
-use Rattle.channel.specs.declared.sending.Sending.{Sending}
+use Rattle.sending.specs.Sending.{heardBase, ackedBy}
+use Rattle.sending.specs.declared.Sending.{Sending}
 use Rattle.flow.specs.Flow.{Flow}
 use Rattle.flow.specs.View.{sends}
 use Rattle.flow.proofs.Flows.{known}
@@ -19,8 +19,8 @@ use Rattle.line.specs.Line.{sendingOf, receivingOf, withSending}
 use Rattle.line.specs.declared.Line.{Line}
 use Rattle.store.specs.declared.Way.the-variants as way
 use Rattle.relay.specs.Asked.{reliable}
-use Rattle.arriving.specs.Arrive.{Relaying, heardLine, ackedLine, ackedAll}
-use Rattle.arriving.proofs.Arrivals.{heard-relaying, acked-relaying}
+use Rattle.effect.specs.Effect.{Relaying, heardLine, ackedLine, ackedAll}
+use Rattle.effect.proofs.Effects.{heard-relaying, acked-relaying}
 use Rattle.arriving.proofs.Keeps.{heard-shaped, acked-shaped}
 use Rattle.promise.specs.Past.{Mark}
 use Rattle.promise.specs.Run.{Each, none, also, Recent, bound}

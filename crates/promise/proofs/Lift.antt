@@ -15,7 +15,8 @@ use Rattle.ground.proofs.Verdicts.{passes, verdict-on}
 use Rattle.packet.specs.Read.{headAt, headTests}
 use Rattle.line.specs.Line.{closedLine}
 use Rattle.line.proofs.Keeps.{closed-fits}
-use Rattle.arriving.specs.Arrive.{Relaying, arriveTests, arrivedLine, arrivedStore}
+use Rattle.effect.specs.Effect.{Relaying}
+use Rattle.arriving.specs.Arrive.{arriveTests, arrivedLine, arrivedStore}
 use Rattle.arriving.proofs.Stays.{arrived-stays}
 use Rattle.book.specs.Book.{lineOf, whose}
 use Rattle.book.specs.declared.Whose.{Whose}

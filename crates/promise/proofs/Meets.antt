@@ -12,8 +12,8 @@ use borrow.Author.Tests.{le-leb}
 use Rattle.ground.proofs.Picks.{pick-by}
 use Rattle.ground.proofs.Verdicts.{passes}
 use Rattle.channel.specs.Channel.{windowOf, cap}
-use Rattle.channel.specs.Sending.{freshSending}
-use Rattle.channel.specs.declared.sending.Sending.{Sending}
+use Rattle.sending.specs.Sending.{freshSending}
+use Rattle.sending.specs.declared.Sending.{Sending}
 use Rattle.flow.specs.Flow.{Message}
 use Rattle.owed.specs.Owed.{member}
 use Rattle.line.specs.Fit.{largest, settingsFit}

@@ -14,7 +14,7 @@ use Rattle.packet.specs.Write.{packetOctets, writeTests}
 use Rattle.packet.specs.declared.Head.{Head}
 use Rattle.packet.specs.declared.Acks.{Acks}
 use Rattle.packet.specs.declared.HeadRead.the-variants as head
-use Rattle.packet.proofs.Back.{head-round, acks-round, payload-round}
+use Rattle.back.proofs.Packets.{head-round, acks-round, payload-round}
 use Rattle.owed.specs.Owed.{owedOf, firstThree}
 use Rattle.line.specs.declared.Line.{Line}
 use Rattle.writing.specs.Write.{acksFor}

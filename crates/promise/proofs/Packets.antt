@@ -16,8 +16,8 @@ use Rattle.ground.proofs.Picks.{clash}
 use Rattle.ground.proofs.Verdicts.{passed, passes, pass-both, verdict-on}
 use Rattle.packet.specs.Read.{headAt, headTests}
 use Rattle.channel.specs.Channel.{modulus}
-use Rattle.channel.specs.Sending.{heldCount}
-use Rattle.channel.specs.declared.sending.Held.{Held}
+use Rattle.sending.specs.Sending.{heldCount}
+use Rattle.sending.specs.declared.Held.{Held}
 use Rattle.line.specs.Fit.{largest, lineFits}
 use Rattle.line.specs.Line.{sendingOf}
 use Rattle.line.specs.declared.Line.{Line}

@@ -13,7 +13,7 @@ use Rattle.ground.specs.Pick.{pick}
 use Rattle.places.specs.Places.{maskOf, bitOf}
 use Rattle.channel.specs.Channel.{windowOf}
 use Rattle.channel.specs.Distance.{placeOf}
-use Rattle.channel.specs.declared.receiving.Receiving.{Receiving}
+use Rattle.receiving.specs.declared.Receiving.{Receiving}
 use Rattle.flow.specs.Flow.{Full, Have, waiting}
 use Rattle.flow.specs.View.{Rooms, messageAt, messageOf}
 use Rattle.flow.proofs.Flows.{none-or, taken-all}

@@ -12,9 +12,9 @@ use Rattle.ground.proofs.Verdicts.{passes, verdict-on}
 use Rattle.places.specs.Places.{maskOf, bitOf, setBelow}
 use Rattle.places.proofs.Ranks.{count-reach}
 use Rattle.channel.specs.Channel.{windowOf}
-use Rattle.channel.specs.Sending.{SendingOk, heldCount}
-use Rattle.channel.specs.declared.sending.Sending.{Sending}
-use Rattle.channel.proofs.Keeps.{sending-sized}
+use Rattle.sending.specs.Sending.{SendingOk, heldCount}
+use Rattle.sending.specs.declared.Sending.{Sending}
+use Rattle.flow.proofs.Keeps.{sending-sized}
 use Rattle.flow.specs.Flow.{Message, Sends, Full}
 use Rattle.flow.specs.View.{Rooms, messageOf}
 use Rattle.flow.proofs.Messages.{message-none, message-full}

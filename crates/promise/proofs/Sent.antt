@@ -16,8 +16,8 @@ use Rattle.ground.proofs.Picks.{pick-by, both-true}
 use Rattle.ground.proofs.Verdicts.{passed}
 use Rattle.ground.proofs.Every.{apart}
 use Rattle.channel.specs.Channel.{windowOf}
-use Rattle.channel.specs.Sending.{nextPlace, tookOne}
-use Rattle.channel.specs.declared.sending.Sending.{Sending}
+use Rattle.sending.specs.Sending.{nextPlace, tookOne}
+use Rattle.sending.specs.declared.Sending.{Sending}
 use Rattle.flow.specs.Flow.{Message, Flow, Data, Grows}
 use Rattle.flow.specs.View.{sends}
 use Rattle.flow.proofs.Flows.{data-more}
@@ -38,7 +38,7 @@ use Rattle.relay.specs.Asked.{reliable, relayTests}
 use Rattle.relay.specs.Take.{takeCallTests, tookLine, tookStore}
 use Rattle.relay.proofs.Lines.{channel-span, take-asked, take-reliable, take-fits, take-size, take-window, take-place}
 use Rattle.relay.proofs.Keeps.{with-sending-same, took-line-keeps}
-use Rattle.arriving.proofs.Arrivals.{narrow}
+use Rattle.effect.proofs.Effects.{narrow}
 use Rattle.promise.specs.Past.{more, tookPast}
 use Rattle.promise.specs.Run.{bound}
 use Rattle.promise.specs.Ends.{roomsOf}

@@ -13,11 +13,11 @@ use Rattle.ground.proofs.Picks.{pick-by}
 use Rattle.field.specs.Word.{wordOf}
 use Rattle.channel.specs.Channel.{modulus, windowOf}
 use Rattle.channel.specs.Sizes.{sizeFits}
-use Rattle.channel.specs.Receiving.{arrivalOf, arrivalPlace, arrivedAs}
-use Rattle.channel.specs.declared.receiving.Receiving.{Receiving}
-use Rattle.channel.specs.declared.receiving.Arrival.{Arrival}
-use Rattle.channel.specs.declared.receiving.Arrival.the-variants.{Stored, There, Old}
-use Rattle.channel.proofs.Keeps.{receiving-sized}
+use Rattle.receiving.specs.Receiving.{arrivalOf, arrivalPlace, arrivedAs}
+use Rattle.receiving.specs.declared.Receiving.{Receiving}
+use Rattle.receiving.specs.declared.Arrival.{Arrival}
+use Rattle.receiving.specs.declared.Arrival.the-variants.{Stored, There, Old}
+use Rattle.flow.proofs.Keeps.{receiving-sized}
 use Rattle.flow.specs.Flow.{Message, Receives, Arrived, Data, Grows, Have}
 use Rattle.flow.specs.View.{receives, PutAs}
 use Rattle.flow.proofs.Fields.{arrival-field}
@@ -33,9 +33,9 @@ use Rattle.store.specs.Store.{regionOf}
 use Rattle.store.specs.declared.Way.the-variants as way
 use Rattle.store.proofs.Rooms.{Whose, Served}
 use Rattle.relay.specs.Asked.{reliable}
-use Rattle.arriving.specs.Arrive.{Relaying, owingLine, arrivalAt, storedLine, putAs, storedStore}
-use Rattle.arriving.proofs.Arrivals.{narrow, stored-near, place-near}
-use Rattle.arriving.proofs.Stays.{stored-stays}
+use Rattle.effect.specs.Effect.{Relaying, owingLine, arrivalAt, storedLine, putAs, storedStore}
+use Rattle.effect.proofs.Effects.{narrow, stored-near, place-near}
+use Rattle.effect.proofs.Stays.{stored-stays}
 use Rattle.arriving.proofs.Keeps.{stored-relaying, stored-shaped, stored-store-length}
 use Rattle.promise.specs.Past.{enter}
 use Rattle.promise.specs.Run.{also, bound}

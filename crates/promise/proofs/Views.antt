@@ -18,12 +18,12 @@ use Rattle.ground.proofs.Either.{or-second}
 use Rattle.places.specs.Places.{maskOf, bitOf}
 use Rattle.channel.specs.Channel.{windowOf}
 use Rattle.channel.specs.Distance.{placeOf}
-use Rattle.channel.specs.Sending.{SendingOk}
-use Rattle.channel.specs.Receiving.{ReceivingOk}
-use Rattle.channel.specs.declared.sending.Sending.{Sending}
-use Rattle.channel.specs.declared.receiving.Receiving.{Receiving}
+use Rattle.sending.specs.Sending.{SendingOk}
+use Rattle.receiving.specs.Receiving.{ReceivingOk}
+use Rattle.sending.specs.declared.Sending.{Sending}
+use Rattle.receiving.specs.declared.Receiving.{Receiving}
 use Rattle.channel.proofs.Distances.{place-lt}
-use Rattle.channel.proofs.Sized.{bit-below}
+use Rattle.flow.proofs.Sized.{bit-below}
 use Rattle.flow.specs.Flow.{Message}
 use Rattle.flow.specs.View.{Rooms, messageAt, messageOf, sends, receives, PutAt, Roomy}
 use Rattle.line.specs.Fit.{largest}

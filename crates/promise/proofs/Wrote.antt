@@ -22,13 +22,13 @@ use Rattle.packet.specs.Acks.{ackList}
 use Rattle.packet.specs.Read.{headAt}
 use Rattle.packet.specs.Write.{packetOctets, writeTests}
 use Rattle.packet.specs.declared.Head.{Head}
-use Rattle.packet.proofs.Back.{size-round}
+use Rattle.back.proofs.Packets.{size-round}
 use Rattle.channel.specs.Channel.{modulus, windowOf}
 use Rattle.channel.specs.Distance.{placeOf}
-use Rattle.channel.specs.Sending.{heldAt, heldOf}
-use Rattle.channel.specs.declared.sending.Held.{Held}
-use Rattle.channel.specs.declared.sending.Sending.{Sending}
-use Rattle.channel.proofs.Keeps.{sending-sized}
+use Rattle.sending.specs.Sending.{heldAt, heldOf}
+use Rattle.sending.specs.declared.Held.{Held}
+use Rattle.sending.specs.declared.Sending.{Sending}
+use Rattle.flow.proofs.Keeps.{sending-sized}
 use Rattle.flow.specs.Flow.{Message, Full, Data}
 use Rattle.flow.specs.View.{Rooms}
 use Rattle.flow.proofs.Messages.{message-in, message-full}

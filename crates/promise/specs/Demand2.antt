@@ -24,8 +24,8 @@ use Rattle.breaks.specs.Break as breaks
 use Rattle.breaks.specs.declared.Break.{Break}
 use Rattle.breaks.specs.declared.Reading.the-variants as breakReading
 use Rattle.channel.specs.Channel.{modulus}
-use Rattle.channel.specs.Sending.{heldCount}
-use Rattle.channel.specs.declared.sending.Held.{Held}
+use Rattle.sending.specs.Sending.{heldCount}
+use Rattle.sending.specs.declared.Held.{Held}
 use Rattle.mode.specs.Given.{modem}
 use Rattle.mode.specs.Moved.{ended}
 use Rattle.mode.specs.Indication.{hearTests, heardMode}

@@ -10,11 +10,11 @@ use Rattle.ground.specs.Refusal.{verdict}
 use Rattle.ground.specs.declared.Verdict.the-variants.{Pass}
 use Rattle.ground.proofs.Picks.{pick-by}
 use Rattle.channel.specs.Channel.{windowOf}
-use Rattle.channel.specs.Sending.{nextPlace, tookOne}
-use Rattle.channel.specs.Receiving.{handedOut}
-use Rattle.channel.specs.declared.receiving.Receiving.{Receiving}
-use Rattle.channel.specs.declared.sending.Sending.{Sending}
-use Rattle.channel.proofs.Keeps.{took-keeps, handed-keeps}
+use Rattle.sending.specs.Sending.{nextPlace, tookOne}
+use Rattle.receiving.specs.Receiving.{handedOut}
+use Rattle.receiving.specs.declared.Receiving.{Receiving}
+use Rattle.sending.specs.declared.Sending.{Sending}
+use Rattle.flow.proofs.Keeps.{took-keeps, handed-keeps}
 use Rattle.line.specs.Line.{sendingOf, receivingOf, withSides, withSending, withReceiving}
 use Rattle.line.specs.Fit.{largest, lineFits}
 use Rattle.line.specs.Shape.{Shaped}

@@ -19,12 +19,12 @@ use Rattle.ground.proofs.Either.{or-cases}
 use Rattle.places.specs.Places.{widest}
 use Rattle.channel.specs.Channel.{windowOf, cap}
 use Rattle.channel.specs.Sizes.{sizeFits}
-use Rattle.channel.specs.Sending.{SendingOk, takeTests, underWay, nextPlace}
+use Rattle.sending.specs.Sending.{SendingOk, takeTests, underWay, nextPlace}
 use Rattle.channel.proofs.Distances.{place-lt}
-use Rattle.channel.specs.Receiving.{ReceivingOk, handTests, nextSize}
+use Rattle.receiving.specs.Receiving.{ReceivingOk, handTests, nextSize}
 use Rattle.channel.specs.Distance.{placeOf}
-use Rattle.channel.specs.declared.receiving.Receiving.{Receiving}
-use Rattle.channel.proofs.Keeps.{sending-ok, receiving-ok, receiving-sized}
+use Rattle.receiving.specs.declared.Receiving.{Receiving}
+use Rattle.flow.proofs.Keeps.{sending-ok, receiving-ok, receiving-sized}
 use Rattle.mode.specs.Given.{modem}
 use Rattle.line.specs.Line.{sendingOf, receivingOf}
 use Rattle.line.specs.Fit.{largest, lineFits}

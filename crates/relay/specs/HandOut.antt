@@ -6,7 +6,7 @@ use lib.Dec.{leb}
 use Rattle.ground.specs.Refusal.{Test, must}
 use Rattle.ground.specs.declared.Refusal.the-variants.{ROOM}
 use Rattle.channel.specs.Channel.{windowOf}
-use Rattle.channel.specs.Receiving.{handTests, nextSize, handedOut}
+use Rattle.receiving.specs.Receiving.{handTests, nextSize, handedOut}
 use Rattle.line.specs.Line.{receivingOf, withReceiving}
 use Rattle.line.specs.declared.Line.{Line}
 use Rattle.store.specs.Store.{regionOf, octetsIn}

@@ -7,7 +7,7 @@ use Rattle.ground.specs.Refusal.{Test, must}
 use Rattle.ground.specs.declared.Refusal.the-variants.{SIZE}
 use Rattle.channel.specs.Channel.{windowOf}
 use Rattle.channel.specs.Sizes.{sizeFits}
-use Rattle.channel.specs.Sending.{takeTests, nextPlace, tookOne}
+use Rattle.sending.specs.Sending.{takeTests, nextPlace, tookOne}
 use Rattle.line.specs.Line.{sendingOf, withSending}
 use Rattle.line.specs.Fit.{largest}
 use Rattle.line.specs.declared.Line.{Line}

@@ -22,11 +22,11 @@ use Rattle.connect.specs.declared.Connect.{Connect}
 use Rattle.slip.specs.Slip.{slipRead, slipAt, slipFits, formFits, slipOctets}
 use Rattle.slip.specs.Slip as slip
 use Rattle.channel.specs.Channel.{windowOf}
-use Rattle.channel.specs.Receiving.{arrivalOf, receivingFits}
-use Rattle.channel.specs.Sending.{takeTests, heardBase, sendingFits}
-use Rattle.channel.specs.declared.receiving.Receiving.{Receiving}
-use Rattle.channel.specs.declared.receiving.Arrival.the-variants.{Stored, Old}
-use Rattle.channel.specs.declared.sending.Sending.{Sending}
+use Rattle.receiving.specs.Receiving.{arrivalOf, receivingFits}
+use Rattle.sending.specs.Sending.{takeTests, heardBase, sendingFits}
+use Rattle.receiving.specs.declared.Receiving.{Receiving}
+use Rattle.receiving.specs.declared.Arrival.the-variants.{Stored, Old}
+use Rattle.sending.specs.declared.Sending.{Sending}
 use Rattle.mode.specs.declared.Modes.{Modes}
 use Rattle.mode.specs.Given.{unknown, audio, voiceband}
 use Rattle.mode.specs.Moved.{openedModes, timed, moved, trying}

@@ -21,14 +21,14 @@ use Rattle.places.specs.declared.Place.{Place}
 use Rattle.places.specs.declared.Place.the-variants.{At, Missing}
 use Rattle.places.proofs.Ranks.{rank-holds, rank-below}
 use Rattle.channel.specs.Channel.{modulus, windowOf}
-use Rattle.channel.specs.Sending.{SendingOk, sendingFits, heldAt, heldOf, underWay}
+use Rattle.sending.specs.Sending.{SendingOk, sendingFits, heldAt, heldOf, underWay}
 use Rattle.channel.specs.Sizes.{sizeFits}
-use Rattle.channel.specs.declared.sending.Held.{Held}
-use Rattle.channel.specs.declared.sending.Ranked.{Ranked}
-use Rattle.channel.specs.declared.sending.Ranked.the-variants.{Is, Nothing}
-use Rattle.channel.specs.declared.sending.Sending.{Sending}
+use Rattle.sending.specs.declared.Held.{Held}
+use Rattle.sending.specs.declared.Ranked.{Ranked}
+use Rattle.sending.specs.declared.Ranked.the-variants.{Is, Nothing}
+use Rattle.sending.specs.declared.Sending.{Sending}
 use Rattle.channel.proofs.Distances.{place-lt}
-use Rattle.channel.proofs.Keeps.{sending-sized}
+use Rattle.flow.proofs.Keeps.{sending-sized}
 use Rattle.packet.specs.Read as packet
 use Rattle.packet.specs.Write.{numbersPlaced, writeTests}
 use Rattle.packet.proofs.Writes.{packet-length}

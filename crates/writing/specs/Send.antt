@@ -9,11 +9,11 @@ use Rattle.ground.specs.Refusal.{Test, must, verdict, settle}
 use Rattle.ground.specs.declared.Refusal.the-variants.{NOTHING, ROOM}
 use Rattle.ground.specs.declared.Verdict.the-variants.{Pass}
 use Rattle.channel.specs.Channel.{modulus, windowOf}
-use Rattle.channel.specs.Sending.{heldOf}
+use Rattle.sending.specs.Sending.{heldOf}
 use Rattle.channel.specs.Sizes.{sizeFits}
-use Rattle.channel.specs.declared.sending.Held.{Held}
-use Rattle.channel.specs.declared.sending.Ranked.{Ranked}
-use Rattle.channel.specs.declared.sending.Ranked.the-variants.{Is, Nothing}
+use Rattle.sending.specs.declared.Held.{Held}
+use Rattle.sending.specs.declared.Ranked.{Ranked}
+use Rattle.sending.specs.declared.Ranked.the-variants.{Is, Nothing}
 use Rattle.packet.specs.Write.{packetOctets}
 use Rattle.line.specs.Fit.{largest}
 use Rattle.line.specs.Line.{sendingOf}

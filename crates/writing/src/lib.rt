@@ -13,14 +13,14 @@ ghost use Rattle.line.specs.Fit.{lineFits};
 ghost use Rattle.writing.specs.Send.{maySend, heldPacket, Sendable};
 ghost use Rattle.writing.specs.Write.{acksFor, wroteLine, baseFor, headFor, headerFor, emptyPacket, emptyTests};
 use channel::Channel;
-use channel::Held;
-use channel::Ranked;
 use ground::Refusal;
 use ground::Verdict;
 use ground::Written;
 use line::Line;
 use packet::Acks;
 use packet::Head;
+use sending::Held;
+use sending::Ranked;
 use store::Region;
 use store::Way;
 

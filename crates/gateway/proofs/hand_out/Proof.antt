@@ -9,8 +9,8 @@ use Rattle.relay.proofs.Lines.{hand-first}
 use Rattle.relay.specs.HandOut.{handCallTests, handedLine, handedOctets}
 use Rattle.line.specs.declared.Line.{Line}
 use Rattle.line.specs.Line.{receivingOf}
-use Rattle.channel.specs.declared.receiving.Receiving.{Receiving}
-use Rattle.channel.specs.Receiving.{nextSize}
+use Rattle.receiving.specs.declared.Receiving.{Receiving}
+use Rattle.receiving.specs.Receiving.{nextSize}
 use Rattle.ground.specs.Answer.{accepted}
 use denote.Ref.{now}
 use lib.ListN.{length, drop}

@@ -7,7 +7,7 @@ use Rattle.book.specs.Book.{lineOf}
 use Rattle.relay.specs.Asked.{relayTests}
 use Rattle.line.specs.declared.Line.{Line}
 use Rattle.line.specs.Line.{sendingOf}
-use Rattle.channel.specs.Sending.{heldCount}
+use Rattle.sending.specs.Sending.{heldCount}
 use Rattle.ground.specs.Answer.{accepted}
 use mathlib.Core.List.{[], _∷_}
 use mathlib.Core.Path.{sym, ap, _∙_}

@@ -7,7 +7,7 @@ use Rattle.book.specs.Book.{lineOf, withLine}
 use Rattle.relay.specs.Take.{takeCallTests, tookLine, tookStore}
 use Rattle.line.specs.declared.Line.{Line}
 use Rattle.line.specs.Line.{sendingOf}
-use Rattle.channel.specs.declared.sending.Sending.{Sending}
+use Rattle.sending.specs.declared.Sending.{Sending}
 use Rattle.channel.specs.Channel.{modulus}
 use Rattle.ground.specs.Answer.{accepted}
 use denote.Ref.{now}

@@ -3,9 +3,9 @@ use Prim.Native.Nat.{ℕ}
 use mathlib.Core.List.{_++_}
 use lib.ListN.{length, drop}
 use denote.Ref.{now}
-use Rattle.channel.specs.Receiving.{nextSize, handedOut}
+use Rattle.receiving.specs.Receiving.{nextSize, handedOut}
 use Rattle.channel.specs.declared.Channel.{Channel}
-use Rattle.channel.specs.declared.receiving.Receiving.{Receiving}
+use Rattle.receiving.specs.declared.Receiving.{Receiving}
 use Rattle.line.specs.Line.{withReceiving}
 use Rattle.store.specs.Store.{octetsIn}
 use Rattle.relay.proofs.Lines.{region-size, room-there, hand-first, hand-reliable, hand-steps, hand-cap, hand-room, hand-size}

@@ -1,6 +1,6 @@
 use mathlib.Core.Path.{ap, _∙_}
-use Rattle.channel.specs.Sending.{heldCount}
-use Rattle.channel.specs.declared.sending.Sending.{Sending}
+use Rattle.sending.specs.Sending.{heldCount}
+use Rattle.sending.specs.declared.Sending.{Sending}
 use borrow.Author.Needs.{needs}
 use Rattle.relay.proofs.held.Statement.{statement}
 use Rattle.relay.proofs.held.Tie as tie

@@ -7,8 +7,8 @@ use borrow.Author.Tests.{le-leb, lt-leb}
 use Rattle.ground.specs.Refusal.{Test, verdict, must}
 use Rattle.ground.specs.declared.Refusal.the-variants.{ROOM}
 use Rattle.ground.proofs.Verdicts.{verdict-on, verdict-stop}
-use Rattle.channel.specs.Receiving.{handTests, nextSize}
-use Rattle.channel.specs.declared.receiving.Receiving.{Receiving}
+use Rattle.receiving.specs.Receiving.{handTests, nextSize}
+use Rattle.receiving.specs.declared.Receiving.{Receiving}
 use Rattle.line.specs.Line.{receivingOf}
 use Rattle.relay.specs.Asked.{relayTests}
 use Rattle.relay.specs.HandOut.{handCallTests}

@@ -2,7 +2,7 @@ use Rattle.channel.specs.declared.Channel.{Channel}
 use mathlib.Core.Path.{sym, ap, _∙_}
 use Rattle.ground.specs.Refusal.{verdict}
 use Rattle.ground.proofs.Verdicts.{verdict-on, verdict-stop}
-use Rattle.channel.specs.Sending.{takeTests}
+use Rattle.sending.specs.Sending.{takeTests}
 use Rattle.relay.specs.Asked.{relayTests}
 use Rattle.relay.specs.Take.{takeCallTests}
 use Rattle.relay.proofs.Lines.{sending-ordered}

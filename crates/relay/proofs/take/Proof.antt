@@ -4,9 +4,9 @@ use native.Mathlib.Omega.{arith}
 use lib.ListN.{length}
 use lib.Seq.{sets}
 use denote.Ref.{now}
-use Rattle.channel.specs.Sending.{nextPlace, tookOne}
+use Rattle.sending.specs.Sending.{nextPlace, tookOne}
 use Rattle.channel.specs.declared.Channel.{Channel}
-use Rattle.channel.specs.declared.sending.Sending.{Sending}
+use Rattle.sending.specs.declared.Sending.{Sending}
 use Rattle.line.specs.Line.{withSending}
 use Rattle.store.specs.Store.{roomAt}
 use Rattle.relay.proofs.Lines.{region-size, room-there, take-reliable, take-size, take-steps, take-cap, take-window, take-place}

@@ -4,7 +4,7 @@ use native.Mathlib.Omega.{arith}
 use lib.Bits.{mask-lt, and-mask}
 use borrow.Author.Tests.{eq-eqb, ne-eqb}
 use Rattle.channel.specs.Channel.{modulus}
-use Rattle.channel.specs.declared.receiving.Receiving.{Receiving}
+use Rattle.receiving.specs.declared.Receiving.{Receiving}
 use Rattle.writing.specs.Write.{baseFor}
 use borrow.Author.Needs.{needs}
 use Rattle.writing.proofs.base_for.Statement.{statement}

@@ -4,7 +4,7 @@ use Rattle.ground.specs.Refusal.{verdict}
 use Rattle.relay.specs.Asked.{relayTests}
 use Rattle.writing.specs.Send.{ranked}
 use native.Mathlib.Omega.{arith}
-use Rattle.channel.specs.Sending.{heldOf}
+use Rattle.sending.specs.Sending.{heldOf}
 use Rattle.channel.specs.declared.Channel.{Channel}
 use Rattle.relay.proofs.Lines.{sending-steps}
 use Rattle.writing.proofs.Sends.{send-refused, send-nothing, send-room, send-may}

@@ -1,0 +1,4 @@
+pub mod Breaks
+pub mod Connects
+pub mod Packets
+pub mod Slips

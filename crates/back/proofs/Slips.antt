@@ -1,0 +1,38 @@
+-- A slip that may be written reads back as what was written, and every slip has one reading.
+-- Assumes nothing.
+use mathlib.Core.Path.{_≡_, refl, ap, sym, _∙_}
+use mathlib.Core.List.{List, [], _∷_}
+use Prim.Native.Nat.{ℕ}
+use lib.Dec.{eqb}
+use borrow.Author.Tests.{eq-eqb}
+use Rattle.ground.specs.Refusal.{verdict}
+use Rattle.ground.specs.declared.Verdict.the-variants.{Pass}
+use Rattle.ground.proofs.Picks.{together}
+use Rattle.ground.proofs.Verdicts.{passed, passes}
+use Rattle.ground.proofs.Settled.{settles-took}
+use Rattle.field.specs.Bits.{bitsAt}
+use Rattle.field.proofs.Packs.{reads-whole}
+use Rattle.slip.specs.Slip.{layout, slipAt, slipFits, formFits, slipOctets, slipRead, readTests, writeTests}
+use Rattle.slip.specs.declared.Slip.{Slip}
+use Rattle.slip.specs.declared.Reading.the-variants.{Says, Refused}
+use Rattle.slip.proofs.Writes.{fits-room}
+
+-- a slip that may be written reads back
+pub round : (v : Slip) (room : ℕ) → verdict (writeTests v room) ≡ Pass → slipRead (slipOctets v) ≡ Says v
+unfolding slipAt slipOctets formFits
+round v room ok =
+    let t = passed (writeTests v room) ok in
+    let r = reads-whole 12 (layout v) (fits-room v (t .0)) refl in
+    let s : List ℕ = slipOctets v in
+    let q = r .1 in
+    let e : slipAt s ≡ v = λ i. record { identifier = q .0 i; kind = q .1 .0 i; first = q .1 .1 .0 i; second = q .1 .1 .1 .0 i; reason = q .1 .1 .1 .1 .0 i } in
+    let f = together (eqb (bitsAt s 0 4) 1 ∷ eqb (bitsAt s 74 22) 0 ∷ []) (eq-eqb _ _ (r .0), (eq-eqb _ _ (q .1 .1 .1 .1 .1 .0), tt)) in
+    sym (settles-took (verdict (readTests s)) Refused (Says (slipAt s)) refl (passes (readTests s) (refl, (f, (ap slipFits e ∙ t .0, tt)))) (ap Says (sym e)))
+
+-- Two slips that are written alike are one.
+pub written-once : (v w : Slip) (m n : ℕ) → verdict (writeTests v m) ≡ Pass → verdict (writeTests w n) ≡ Pass → slipOctets v ≡ slipOctets w → v ≡ w
+written-once v w m n p q e =
+    let x = round v m p in
+    let y = round w n q in
+    let s : slipRead (slipOctets v) ≡ slipRead (slipOctets w) = ap slipRead e in
+    cc

@@ -1,0 +1,12 @@
+use borrow.Author.Needs.{needs}
+use Rattle.receiving.proofs.Receiving.fresh.Statement.{statement}
+use Rattle.receiving.proofs.Receiving.fresh.Tie as tie
+
+none-requires : tie.Need-none-requires
+none-requires c κs = search needs
+
+returns : tie.Need-returns
+returns c = simp (c .none .ensures)
+
+pub fresh-spec : {M : Type 1} → statement M
+fresh-spec = tie.close (tie.spec none-requires returns)
