@@ -41,7 +41,11 @@ open-seen-requires : tie.Need-open-seen-requires
 open-seen-requires c κs = lines (c .before .before .before .before .before)
 
 unseen-requires : tie.Need-unseen-requires
-unseen-requires c κs = (c .before .before .before .before .if2 .left, spans (c .before))
+unfolding allSpan
+unseen-requires c κs =
+    let few = c .before .before .before .before .if2 .left in
+    let span = spans (c .before) in
+    search needs
 
 returns-4 : tie.Need-returns-4
 unfolding bookFits
