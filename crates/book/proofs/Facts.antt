@@ -1,23 +1,26 @@
 -- What BOOK asks of a book, as facts: of each line, of its identifier, and of those that rest.
 -- Assumes nothing.
 use Prim.Native.Nat.{ℕ, zero, suc, _≤_, _<_}
-use mathlib.Core.Path.{_≡_, refl}
-use mathlib.Core.Bool.{true}
-use mathlib.Core.List.{List, [], _∷_, _++_}
+use mathlib.Core.Path.{_≡_, refl, sym, _∙_}
+use mathlib.Core.Bool.{true, _&&_}
+use mathlib.Core.List.{List, [], _∷_}
 use native.Mathlib.Omega.{arith}
 use native.Mathlib.Decide.{decLt}
 use lib.Dec.{leb}
-use lib.ListN.{length, getD, take, drop, List·getD-eq-default}
-use lib.Seq.{getD-take}
+use lib.ListN.{length, getD, List·getD-eq-default}
 use borrow.Author.Tests.{leb-true, le-leb}
 use Rattle.ground.proofs.Picks.{both-true, each, pick-by}
 use Rattle.owed.specs.Owed.{noTwice}
+use Rattle.resting.specs.Rest.{allSpan}
+use Rattle.resting.specs.Marks.{newIn, marked, none}
+use Rattle.resting.proofs.Spans.{span-append}
+use Rattle.resting.proofs.Once.{new-append, new-once}
 use Rattle.line.specs.Line.{closedLine}
 use Rattle.line.specs.Fit.{lineFits}
 use Rattle.line.specs.declared.Line.{Line}
 use Rattle.line.proofs.Keeps.{line-ok, closed-fits}
 use Rattle.book.specs.declared.Book.{Book}
-use Rattle.book.specs.Book.{openIn, linesFit, allSpan, bookFits, restingOf, identifiersOf, lineOf}
+use Rattle.book.specs.Book.{openIn, linesFit, bookFits, restingOf, identifiersOf, lineOf}
 
 pub record BookOk (b : Book) : Type 0 where
   pub lines : linesFit (b .lines) ≡ true
@@ -60,28 +63,12 @@ open-span (l ∷ ls) f =
     let r = open-span ls (b .1) in
     pick-by (λ (xs : List ℕ). allSpan xs ≡ true) (l .opened) (λ e. rw (line-span l (b .0) e, r)) (λ e. r)
 
--- so is one that rests
-span-at : (l : List ℕ) → allSpan l ≡ true → (i : ℕ) → getD l i 0 ≤ 127
-unfolding allSpan
-span-at [] f i = omega arith
-span-at (x ∷ l) f zero = leb-true x 127 (both-true (leb x 127) (allSpan l) f .0)
-span-at (x ∷ l) f (suc i) = span-at l (both-true (leb x 127) (allSpan l) f .1) i
-
-pub resting-at : (l : List ℕ) (n i : ℕ) → allSpan (take n l) ≡ true → i < n → getD l i 0 < 128
-resting-at l n i f h = omega (arith, span-at (take n l) f i, getD-take n l i 0 h)
-
-pub span-append : (a b : List ℕ) → allSpan a ≡ true → allSpan b ≡ true → allSpan (a ++ b) ≡ true
-unfolding allSpan
-span-append [] b f g = g
-span-append (x ∷ a) b f g =
-    let e = both-true (leb x 127) (allSpan a) f in
-    rw (e .0, span-append a b (e .1) g)
-
-pub span-rest : (k : ℕ) (l : List ℕ) → allSpan l ≡ true → allSpan (drop k l) ≡ true
-unfolding allSpan
-span-rest zero l f = f
-span-rest (suc k) [] f = f
-span-rest (suc k) (x ∷ l) f = span-rest k l (both-true (leb x 127) (allSpan l) f .1)
+-- the open ones are marked, and each that rests finds no mark, exactly if none is there twice
+pub once-is : (b : Book) → linesFit (b .lines) ≡ true → allSpan (restingOf b) ≡ true
+    → (newIn none (openIn (b .lines)) && newIn (marked none (openIn (b .lines))) (restingOf b)) ≡ noTwice (identifiersOf b)
+once-is b f s =
+    sym (new-append none (openIn (b .lines)) (restingOf b))
+    ∙ new-once (identifiersOf b) (span-append (openIn (b .lines)) (restingOf b) (open-span (b .lines) f) s)
 
 -- each line of a book fits; past the end stands a closed one
 pub line-fits : (b : Book) → bookFits b ≡ true → (i : ℕ) → lineFits (lineOf b i) ≡ true

@@ -6,9 +6,10 @@ use Rattle.owed.specs.Owed.{noTwice}
 use Rattle.line.specs.Line.{closedLine}
 use Rattle.line.specs.Fit.{lineFits}
 use Rattle.line.proofs.Shape.{closed-shaped}
-use Rattle.book.specs.Book.{freshBook, openIn, linesFit, allSpan, bookFits}
+use Rattle.book.specs.Book.{freshBook, openIn, linesFit, bookFits}
 use Rattle.book.specs.Shape.{BookShaped}
-use Rattle.book.proofs.Turns.{getD-alike}
+use Rattle.resting.specs.Rest.{allSpan}
+use Rattle.resting.proofs.Turns.{getD-alike}
 
 pub fresh-fits : bookFits freshBook ≡ true
 unfolding bookFits linesFit lineFits openIn allSpan noTwice

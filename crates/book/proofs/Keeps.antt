@@ -11,19 +11,22 @@ use borrow.Author.Tests.{not-true}
 use Rattle.ground.proofs.Picks.{both-true}
 use Rattle.owed.specs.Owed.{member, noTwice}
 use Rattle.owed.proofs.Lists.{twice-last}
+use Rattle.resting.specs.Rest.{allSpan, rests}
+use Rattle.resting.proofs.Resting.{rests-most}
+use Rattle.resting.proofs.Spans.{span-append, span-rest}
 use Rattle.line.specs.Line.{closedLine}
 use Rattle.line.specs.Fit.{lineFits}
 use Rattle.line.specs.Shape.{Shaped}
 use Rattle.line.specs.declared.Line.{Line}
 use Rattle.line.proofs.Keeps.{closed-fits}
 use Rattle.line.proofs.Shape.{closed-shaped}
-use Rattle.book.specs.Book.{openIn, lineOf, withLine, restingOf, allSpan, bookFits, taken}
-use Rattle.book.specs.Rest.{rests, closedAt}
+use Rattle.book.specs.Book.{openIn, lineOf, withLine, restingOf, bookFits, taken}
+use Rattle.book.specs.Rest.{closedAt}
 use Rattle.book.specs.Shape.{BookShaped}
 use Rattle.book.specs.declared.Book.{Book}
 use Rattle.book.proofs.Around.{set-by, lines-set, open-same, open-closed, once-open, once-less}
-use Rattle.book.proofs.Facts.{book-ok, ok-book, line-span, line-fits, span-append, span-rest}
-use Rattle.book.proofs.Resting.{rests-most, closed-resting}
+use Rattle.book.proofs.Facts.{book-ok, ok-book, line-span, line-fits}
+use Rattle.book.proofs.Closing.{closed-resting}
 
 -- a line anew, open or closed as it was and with its identifier
 pub with-line-keeps : (b : Book) → bookFits b ≡ true → (i : ℕ) (l : Line) → lineFits l ≡ true → l .opened ≡ lineOf b i .opened → l .identifier ≡ lineOf b i .identifier

@@ -1,6 +1,5 @@
 pub mod Turns
-pub mod Resting
-pub mod Once
+pub mod Closing
 pub mod Facts
 pub mod Around
 pub mod Owner

@@ -1,18 +1,17 @@
--- One turn of each loop over the lines or over those that rest: what the rest of the list comes to, the whole comes to.
+-- One turn of each loop over the lines: what the rest of the list comes to, the whole comes to.
 -- Assumes nothing.
 use Prim.Native.Nat.{ℕ, zero, suc, _+_, _≤_, _<_}
-use mathlib.Core.Path.{_≡_, refl, sym, ap, _∙_}
+use mathlib.Core.Path.{_≡_, refl, sym, _∙_}
 use mathlib.Core.Bool.{true, false, _&&_}
 use mathlib.Core.List.{List, [], _∷_, map}
 use native.Mathlib.Numerals.{add-one}
 use native.Mathlib.Omega.{arith}
 use lib.Dec.{eqb}
-use lib.ListN.{replicate, length, getD, take, drop, drop-of-length-le, length-take, length-map}
-use lib.Seq.{drop-cons, getD-take, length-take-le}
-use borrow.Author.Tests.{lt-leb, le-leb}
+use lib.ListN.{length, getD, drop, drop-of-length-le, length-map}
+use Rattle.resting.proofs.Turns.{left}
 use Rattle.line.specs.Fit.{lineFits}
 use Rattle.line.specs.declared.Line.{Line}
-use Rattle.book.specs.Book.{openIn, linesFit, allSpan, whoseFrom}
+use Rattle.book.specs.Book.{openIn, linesFit, whoseFrom}
 use Rattle.book.specs.declared.Whose.the-variants.{At, Nobody}
 
 -- an array of structs has as many elements as its declaration says
@@ -24,16 +23,6 @@ pub getD-any {ℓ} : {A : Type ℓ} (l : List A) (i : ℕ) (d e : A) → i < len
 getD-any [] i d e h = absurd (omega arith)
 getD-any (x ∷ l) zero d e h = refl
 getD-any (x ∷ l) (suc i) d e h = getD-any l i d e (omega arith)
-
--- a list of one element over and over has it everywhere, where it stands for none too
-pub getD-alike {ℓ} : {A : Type ℓ} (n i : ℕ) (a : A) → getD (replicate n a) i a ≡ a
-getD-alike zero i a = refl
-getD-alike (suc n) zero a = refl
-getD-alike (suc n) (suc i) a = getD-alike n i a
-
--- what is left from place i on: the element there, and what is left behind it
-left {ℓ} : {A : Type ℓ} (l : List A) (i : ℕ) (d : A) → i < length l → drop i l ≡ getD l i d ∷ drop (i + 1) l
-left l i d h = drop-cons l i d h ∙ ap (λ (n : ℕ). getD l i d ∷ drop n l) (sym (add-one i))
 
 module _ (ls : List Line) (i : ℕ) (d : Line) (h : i < length ls) where
   -- the line has the identifier, or another has
@@ -76,25 +65,3 @@ module _ (ls : List Line) (i : ℕ) (h : length ls ≤ i) where
   pub open-end : openIn (drop i ls) ≡ []
   unfolding openIn
   open-end = rw (drop-of-length-le ls h)
-
--- Those that rest: each is one of 0 to 127, or one is not.
-module _ (l : List ℕ) (n i : ℕ) (k : i < n) (h : n ≤ length l) where
-  pub rest-here : drop i (take n l) ≡ getD l i 0 ∷ drop (i + 1) (take n l)
-  rest-here =
-      left (take n l) i 0 (omega (arith, length-take-le n l h))
-      ∙ ap (λ (x : ℕ). x ∷ drop (i + 1) (take n l)) (getD-take n l i 0 k)
-
-  pub span-on : getD l i 0 ≤ 127 → allSpan (drop (i + 1) (take n l)) ≡ allSpan (drop i (take n l))
-  unfolding allSpan
-  span-on e = sym (rw (rest-here, le-leb _ _ e))
-
-  pub span-lost : 127 < getD l i 0 → allSpan (drop i (take n l)) ≡ false
-  unfolding allSpan
-  span-lost e = rw (rest-here, lt-leb _ _ e)
-
-pub rest-end : (l : List ℕ) (n i : ℕ) → n ≤ i → drop i (take n l) ≡ []
-rest-end l n i h = drop-of-length-le (take n l) {i = i} (omega (arith, length-take n l))
-
-pub span-end : (l : List ℕ) (n i : ℕ) → n ≤ i → allSpan (drop i (take n l)) ≡ true
-unfolding allSpan
-span-end l n i h = rw (rest-end l n i h)

@@ -7,8 +7,9 @@ use mathlib.Core.List.{List, [], _∷_, _++_}
 use lib.Dec.{leb}
 use Rattle.ground.specs.Pick.{allHold}
 use Rattle.owed.specs.Owed.{member, noTwice}
+use Rattle.resting.specs.Rest.{allSpan}
 use Rattle.line.specs.declared.Line.{Line}
-use Rattle.book.specs.Book.{lineOf, withLine, restingOf, allSpan, bookFits, taken, whose}
+use Rattle.book.specs.Book.{lineOf, withLine, restingOf, bookFits, taken, whose}
 use Rattle.book.specs.declared.Book.{Book}
 use Rattle.book.proofs.Around.{open-closed, lines-closed, whose-closed}
 

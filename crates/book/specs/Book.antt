@@ -7,6 +7,7 @@ use lib.Dec.{eqb, leb}
 use lib.ListN.{getD, set, take, replicate}
 use Rattle.ground.specs.Pick.{pick, allHold}
 use Rattle.owed.specs.Owed.{member, noTwice}
+use Rattle.resting.specs.Rest.{allSpan}
 use Rattle.line.specs.Line.{closedLine}
 use Rattle.line.specs.Fit.{lineFits}
 use Rattle.line.specs.declared.Line.{Line}
@@ -42,11 +43,6 @@ identifiersOf b = openIn (b .lines) ++ restingOf b
 unfoldable pub linesFit : List Line → Bool
 linesFit [] = true
 linesFit (l ∷ ls) = lineFits l && linesFit ls
-
--- identifiers are 0 to 127
-unfoldable pub allSpan : List ℕ → Bool
-allSpan [] = true
-allSpan (x ∷ xs) = leb x 127 && allSpan xs
 
 -- what BOOK asks: of each line; of the last 16 closed; and "one identifier twice among open and resting"
 unfoldable pub bookFits : Book → Bool

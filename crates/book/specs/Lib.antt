@@ -1,4 +1,3 @@
 pub mod Book
 pub mod Rest
 pub mod Shape
-pub mod Marks

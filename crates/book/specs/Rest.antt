@@ -1,22 +1,11 @@
 -- An identifier goes to rest when its line is closed.
 -- Assumes nothing.
-use Prim.Native.Nat.{ℕ, _-_}
-use mathlib.Core.List.{List, [], _∷_, _++_}
-use lib.ListN.{length, drop, set}
+use Prim.Native.Nat.{ℕ}
+use lib.ListN.{length, set}
+use Rattle.resting.specs.Rest.{rests, restedIn}
 use Rattle.line.specs.Line.{closedLine}
 use Rattle.book.specs.declared.Book.{Book}
 use Rattle.book.specs.Book.{restingOf, lineOf}
-
--- "the last 16 closed": of all that were closed and this one the last 16
-abbrev pub lastSixteen : List ℕ → List ℕ
-lastSixteen l = drop (length l - 16) l
-
-abbrev pub rests : List ℕ → ℕ → List ℕ
-rests l identifier = lastSixteen (l ++ (identifier ∷ []))
-
--- the array with another list in front: behind it stands what stood there
-abbrev pub restedIn : List ℕ → List ℕ → List ℕ
-restedIn resting l = l ++ drop (length l) resting
 
 -- "A closed line's record is as in a fresh book", and its identifier rests
 unfoldable pub closedAt : Book → ℕ → Book

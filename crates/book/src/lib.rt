@@ -1,14 +1,13 @@
 // A gateway's book, by value: four lines, and the identifiers of the last sixteen that were closed. Here is what BOOK asks of
-// it, how a packet's line is found, and how an identifier goes to rest. What the calls do to a line is left to others.
+// it, how a packet's line is found, and what a line's closing leaves. What the calls do to a line is left to others.
 ghost use mathlib.Core.Path.{_≡_};
 ghost use mathlib.Core.Bool.{true};
 ghost use Prim.Native.Nat.{_≤_, _<_};
-ghost use lib.ListN.{take};
-ghost use Rattle.book.specs.Book.{freshBook, lineOf, withLine, restingOf, openIn, identifiersOf, linesFit, allSpan, bookFits, whose, taken};
-ghost use Rattle.book.specs.Rest.{rests, restedIn, closedAt};
-ghost use Rattle.owed.specs.Owed.{member, noTwice};
-ghost use Rattle.book.specs.Marks.{newIn, marked, none};
+ghost use Rattle.book.specs.Book.{freshBook, lineOf, withLine, openIn, linesFit, bookFits, whose, taken};
+ghost use Rattle.book.specs.Rest.{closedAt};
+ghost use Rattle.resting.specs.Marks.{newIn, marked, none};
 use line::Line;
+use resting::Seen;
 
 pub struct Book {
     pub lines: [Line; 4],
@@ -22,12 +21,6 @@ pub struct Book {
 pub enum Whose {
     At(u8),
     Nobody,
-}
-
-// Which identifiers were seen, 1 for each, and whether none of them came twice.
-struct Seen {
-    marks: [u8; 128],
-    once: bool,
 }
 
 impl Book {
@@ -77,55 +70,19 @@ impl Book {
         Whose::Nobody
     }
 
-    // Does the identifier rest?
-    fn rests(self, identifier: u8) -> bool
-        requires { ⌜ self .rested ≤ 16 ⌝ }
-        ensures { λ r. ⌜ r ≡ member identifier (restingOf self) ⌝ }
-    {
-        let n = self.rested as usize;
-        let mut i = 0;
-        while i < n {
-            if self.resting[i] == identifier {
-                return true;
-            }
-            i += 1;
-        }
-        false
-    }
-
     // Is the identifier open on a line, or resting?
     pub fn taken(self, identifier: u8) -> bool
         requires { ⌜ self .rested ≤ 16 ⌝ }
         ensures { λ r. ⌜ r ≡ taken self identifier ⌝ }
     {
-        let resting = self.rests(identifier);
+        let sixteen = self.resting;
+        let resting = resting::rests(sixteen, self.rested, identifier);
         match self.whose(identifier) {
             Whose::At(_) => true,
             Whose::Nobody => resting,
         }
     }
-}
 
-// The array of those that rest once one more does; the oldest leaves it where it is full.
-fn rested(resting: [u8; 16], n: u8, identifier: u8) -> [u8; 16]
-    requires { ⌜ n ≤ 16 ⌝ }
-    ensures { λ r. ⌜ r ≡ restedIn resting (rests (take n resting) identifier) ⌝ }
-{
-    let mut next = resting;
-    if n < 16 {
-        next[n as usize] = identifier;
-        return next;
-    }
-    let mut i = 0;
-    while i < 15 {
-        next[i] = resting[i + 1];
-        i += 1;
-    }
-    next[15] = identifier;
-    next
-}
-
-impl Book {
     // The book once line i is closed: its record is as in a fresh book, and its identifier rests.
     pub fn closed_at(self, i: u8) -> Book
         requires { ⌜ (i < 4) × (self .rested ≤ 16) ⌝ }
@@ -135,15 +92,13 @@ impl Book {
         let closed = Line::closed();
         let mut next = self;
         next.lines[i as usize] = closed;
-        next.resting = rested(self.resting, self.rested, identifier);
+        next.resting = resting::rested(self.resting, self.rested, identifier);
         if self.rested < 16 {
             next.rested = self.rested + 1;
         }
         next
     }
-}
 
-impl Book {
     // Does each line meet what BOOK asks of it?
     fn lines_fit(self) -> bool
         ensures { λ r. ⌜ r ≡ linesFit (self .lines) ⌝ }
@@ -151,22 +106,6 @@ impl Book {
         let mut i = 0;
         while i < 4 {
             if !self.lines[i].fits() {
-                return false;
-            }
-            i += 1;
-        }
-        true
-    }
-
-    // Is each identifier that rests one of 0 to 127?
-    fn resting_span(self) -> bool
-        requires { ⌜ self .rested ≤ 16 ⌝ }
-        ensures { λ r. ⌜ r ≡ allSpan (restingOf self) ⌝ }
-    {
-        let n = self.rested as usize;
-        let mut i = 0;
-        while i < n {
-            if 127 < self.resting[i] {
                 return false;
             }
             i += 1;
@@ -193,25 +132,6 @@ impl Book {
         Seen { marks, once }
     }
 
-    // Is no identifier there twice, among open and resting?
-    fn no_twice(self) -> bool
-        requires { ⌜ (linesFit (self .lines) ≡ true) × (self .rested ≤ 16) × (allSpan (restingOf self) ≡ true) ⌝ }
-        ensures { λ r. ⌜ r ≡ noTwice (identifiersOf self) ⌝ }
-    {
-        let seen = self.open_seen();
-        let mut marks = seen.marks;
-        let mut once = seen.once;
-        let n = self.rested as usize;
-        let mut i = 0;
-        while i < n {
-            let at = self.resting[i] as usize;
-            once = once & (marks[at] == 0);
-            marks[at] = 1;
-            i += 1;
-        }
-        once
-    }
-
     // What BOOK asks.
     pub fn fits(self) -> bool
         ensures { λ r. ⌜ r ≡ bookFits self ⌝ }
@@ -222,9 +142,11 @@ impl Book {
         if 16 < self.rested {
             return false;
         }
-        if !self.resting_span() {
+        let sixteen = self.resting;
+        if !resting::span(sixteen, self.rested) {
             return false;
         }
-        self.no_twice()
+        let seen = self.open_seen();
+        resting::unseen(seen, sixteen, self.rested)
     }
 }

@@ -32,7 +32,8 @@ use Rattle.store.specs.Store.{regionOf}
 use Rattle.relay.specs.Asked.{relayTests}
 use Rattle.relay.specs.Take.{takeCallTests}
 use Rattle.arriving.specs.Arrive.{arriveTests}
-use Rattle.book.specs.Book.{freshBook, openIn, linesFit, allSpan, bookFits, whoseFrom}
+use Rattle.resting.specs.Rest.{allSpan}
+use Rattle.book.specs.Book.{freshBook, openIn, linesFit, bookFits, whoseFrom}
 use Rattle.order.specs.Call.{Call}
 use Rattle.order.specs.Call as call
 use Rattle.order.specs.Order.{openTests, modeTests, addressTests, arrivalTests, lineFor, tests}

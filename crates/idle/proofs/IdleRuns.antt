@@ -35,7 +35,8 @@ use Rattle.writing.specs.Write as writes
 use Rattle.writing.specs.Send.{sendTests, heldPacket}
 use Rattle.effect.specs.Effect.{heardLine, ackedLine, ackedAll, storedLine, storedStore}
 use Rattle.arriving.specs.Arrive.{arriveTests, newsLine, arrivedLine, arrivedStore}
-use Rattle.book.specs.Book.{openIn, linesFit, allSpan, bookFits, whoseFrom}
+use Rattle.resting.specs.Rest.{allSpan}
+use Rattle.book.specs.Book.{openIn, linesFit, bookFits, whoseFrom}
 use Rattle.order.specs.Call.{Call}
 use Rattle.order.specs.Call as call
 use Rattle.order.specs.Order.{openTests, modeTests, addressTests, arrivalTests, lineFor, tests}

@@ -37,7 +37,8 @@ use Rattle.line.specs.declared.Line.{Line}
 use Rattle.store.specs.declared.Way.the-variants as way
 use Rattle.relay.specs.Asked.{relayTests}
 use Rattle.relay.specs.HandOut.{handCallTests}
-use Rattle.book.specs.Book.{lineOf, withLine, openIn, linesFit, allSpan, bookFits}
+use Rattle.resting.specs.Rest.{allSpan}
+use Rattle.book.specs.Book.{lineOf, withLine, openIn, linesFit, bookFits}
 use Rattle.book.proofs.Apart.{line-same}
 use Rattle.book.proofs.Facts.{line-fits}
 use Rattle.order.specs.Call.{Call}

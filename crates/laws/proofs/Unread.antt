@@ -29,7 +29,8 @@ use Rattle.writing.specs.Write.{emptyTests}
 use Rattle.writing.specs.Send.{sendTests}
 use Rattle.arriving.specs.Arrive.{arriveTests}
 use Rattle.book.specs.Book.{lineOf, withLine, restingOf, bookFits, taken}
-use Rattle.book.specs.Rest.{closedAt, rests, restedIn}
+use Rattle.resting.specs.Rest.{rests, restedIn}
+use Rattle.book.specs.Rest.{closedAt}
 use Rattle.book.specs.declared.Book.{Book}
 use Rattle.book.specs.declared.Whose.{Whose}
 use Rattle.book.proofs.Apart.{line-other}

@@ -21,7 +21,7 @@ use Rattle.line.specs.Line.{closedLine, openedLine}
 use Rattle.line.specs.declared.Line.{Line}
 use Rattle.line.specs.declared.Settings.{Settings}
 use Rattle.book.specs.Book.{freshBook, openIn}
-use Rattle.book.proofs.Turns.{getD-alike}
+use Rattle.resting.proofs.Turns.{getD-alike}
 use Rattle.order.specs.Call.{Call}
 use Rattle.order.specs.Call as call
 use Rattle.order.specs.Order.{tests, lineFor, fitBook, lineNumber, openTests, modeTests}

@@ -29,7 +29,7 @@ use Rattle.mode.specs.declared.Modes.{Modes}
 use Rattle.relay.specs.Asked.{reliable}
 use Rattle.book.specs.Book.{freshBook, openIn}
 use Rattle.book.proofs.Fresh.{fresh-fits}
-use Rattle.book.proofs.Turns.{getD-alike}
+use Rattle.resting.proofs.Turns.{getD-alike}
 use Rattle.order.specs.Call as call
 use Rattle.order.specs.Order.{tests, lineFor, fitBook, lineNumber, openTests}
 use Rattle.did.specs.Did.{effect}

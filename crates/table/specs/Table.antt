@@ -42,7 +42,8 @@ use Rattle.mode.specs.Fit.{modesFit}
 use Rattle.owed.specs.Owed.{member, noTwice, allSpans, owedFits}
 use Rattle.line.specs.Fit.{lineFits}
 use Rattle.line.specs.declared.Settings.{Settings}
-use Rattle.book.specs.Book.{freshBook, openIn, linesFit, allSpan, bookFits}
+use Rattle.resting.specs.Rest.{allSpan}
+use Rattle.book.specs.Book.{freshBook, openIn, linesFit, bookFits}
 use Rattle.book.specs.Rest.{closedAt}
 use Rattle.book.specs.declared.Book.{Book}
 use Rattle.order.specs.Call as call

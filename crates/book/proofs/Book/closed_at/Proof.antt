@@ -1,4 +1,4 @@
-use Rattle.book.proofs.Resting.{closes}
+use Rattle.book.proofs.Closing.{closes}
 use Rattle.book.proofs.Turns.{many}
 use lib.Seq.{length-take-le}
 use lib.ListN.{length}

@@ -1,9 +1,23 @@
-use Rattle.book.specs.Book.{bookFits}
-use mathlib.Core.Path.{sym, _∙_}
+use Rattle.book.proofs.Facts.{once-is}
+use Rattle.book.specs.Book.{linesFit, restingOf, bookFits}
+use Rattle.resting.specs.Rest.{allSpan}
+use Rattle.resting.specs.Marks.{newIn}
+use mathlib.Core.Path.{_≡_, sym, ap₂, _∙_}
+use mathlib.Core.Bool.{Bool, true, _&&_}
+use mathlib.Core.List.{List}
+use Prim.Native.Nat.{ℕ}
 use borrow.Author.Tests.{not-true, not-false, le-leb, lt-leb}
 use borrow.Author.Needs.{needs}
 use Rattle.book.proofs.Book.fits.Statement.{statement}
 use Rattle.book.proofs.Book.fits.Tie as tie
+
+-- each line fits
+lines : (c : tie.Else1) → linesFit (c .before .before .args .self .lines) ≡ true
+lines c = sym (c .before .lines-fit .ensures) ∙ not-false _ (c .if1 .left)
+
+-- and each that rests is one of 0 to 127
+spans : (c : tie.Else3) → allSpan (restingOf (c .before .before .before .before .before .before .before .args .self)) ≡ true
+spans c = sym (c .before .span .ensures) ∙ not-false _ (c .if3 .left)
 
 lines-fit-requires : tie.Need-lines-fit-requires
 lines-fit-requires c κs = search needs
@@ -14,27 +28,32 @@ returns c = simp (sym (c .before .lines-fit .ensures) ∙ not-true _ (c .if1 .ta
 
 returns-2 : tie.Need-returns-2
 unfolding bookFits
-returns-2 c = simp (sym (c .before .before .before .lines-fit .ensures) ∙ not-false _ (c .before .before .if1 .left), lt-leb _ _ (c .if2 .taken))
+returns-2 c = simp (lines (c .before .before), lt-leb _ _ (c .if2 .taken))
 
-resting-span-requires : tie.Need-resting-span-requires
-resting-span-requires c κs = search needs
+span-requires : tie.Need-span-requires
+span-requires c κs = search needs
 
 returns-3 : tie.Need-returns-3
 unfolding bookFits
-returns-3 c =
-    simp (sym (c .before .before .before .before .before .lines-fit .ensures) ∙ not-false _ (c .before .before .before .before .if1 .left), le-leb _ _ (c .before .before .if2 .left), sym (c .before .resting-span .ensures) ∙ not-true _ (c .if3 .taken))
+returns-3 c = simp (lines (c .before .before .before .before .before), le-leb _ _ (c .before .before .before .if2 .left), sym (c .before .span .ensures) ∙ not-true _ (c .if3 .taken))
 
-no-twice-requires : tie.Need-no-twice-requires
-no-twice-requires c κs = (sym (c .before .before .before .before .before .lines-fit .ensures) ∙ not-false _ (c .before .before .before .before .if1 .left), c .before .before .if2 .left, sym (c .before .resting-span .ensures) ∙ not-false _ (c .if3 .left))
+open-seen-requires : tie.Need-open-seen-requires
+open-seen-requires c κs = lines (c .before .before .before .before .before)
+
+unseen-requires : tie.Need-unseen-requires
+unseen-requires c κs = (c .before .before .before .before .if2 .left, spans (c .before))
 
 returns-4 : tie.Need-returns-4
 unfolding bookFits
 returns-4 c =
-    c .no-twice .ensures ∙ sym (simp (
-      sym (c .before .before .before .before .before .before .lines-fit .ensures) ∙ not-false _ (c .before .before .before .before .before .if1 .left),
-      le-leb _ _ (c .before .before .before .if2 .left),
-      sym (c .before .before .resting-span .ensures) ∙ not-false _ (c .before .if3 .left),
-    ))
+    let book = c .before .before .before .before .before .before .before .before .before .args .self in
+    let fit = lines (c .before .before .before .before .before .before .before) in
+    let span = spans (c .before .before) in
+    let seen = c .before .open-seen .ensures in
+    c .unseen .ensures
+    ∙ ap₂ (λ (t : Bool) (m : List ℕ). t && newIn m (restingOf book)) (seen .0) (seen .1)
+    ∙ once-is book fit span
+    ∙ sym (simp (fit, le-leb _ _ (c .before .before .before .before .before .if2 .left), span))
 
 pub fits-spec : {M : Type 1} → statement M
 fits-spec =
@@ -43,7 +62,8 @@ fits-spec =
     lines-fit-requires
     returns
     returns-2
-    resting-span-requires
+    span-requires
     returns-3
-    no-twice-requires
+    open-seen-requires
+    unseen-requires
     returns-4)

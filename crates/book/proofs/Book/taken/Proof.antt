@@ -22,13 +22,13 @@ enum-told-2 c = search needs
 
 returns : tie.Need-returns
 returns c =
-    let a = c .before .before .before .before .args in
+    let a = c .before .before .before .before .before .args in
     let e = sym (c .before .before .whose .ensures) ∙ c .enum-told .given .1 in
     sym (member-append (a .identifier) (openIn (a .self .lines)) (restingOf (a .self)) ∙ ap (λ (t : Bool). t || member (a .identifier) (restingOf (a .self))) (open-somebody 0 (a .self .lines) (a .identifier) ∙ ap somebody e))
 
 returns-2 : tie.Need-returns-2
 returns-2 c =
-    let a = c .before .before .before .before .args in
+    let a = c .before .before .before .before .before .args in
     let e = sym (c .before .before .whose .ensures) ∙ c .enum-told2 .given .1 in
     sym (member-append (a .identifier) (openIn (a .self .lines)) (restingOf (a .self)) ∙ ap₂ (λ (t u : Bool). t || u) (open-somebody 0 (a .self .lines) (a .identifier) ∙ ap somebody e) (sym (c .before .before .before .rests .ensures)))
 

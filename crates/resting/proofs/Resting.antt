@@ -5,14 +5,9 @@ use mathlib.Core.Path.{_≡_, sym, ap, _∙_}
 use mathlib.Core.List.{List, [], _∷_, _++_, append-assoc}
 use native.Mathlib.Numerals.{add-one}
 use native.Mathlib.Omega.{arith}
-use lib.ListN.{length, getD, set, take, drop, length-append, length-drop, drop-of-length-le}
-use lib.Seq.{take-append-seam, paste, set-split, take-all, take-paste, length-paste, length-take-le, drop-append-le}
-use Rattle.line.specs.Line.{closedLine}
-use Rattle.line.specs.declared.Line.{Line}
-use Rattle.book.specs.declared.Book.{Book}
-use Rattle.book.specs.Book.{restingOf, lineOf}
-use Rattle.book.specs.Rest.{rests, restedIn, closedAt}
-use Rattle.book.proofs.Turns.{getD-any}
+use lib.ListN.{length, set, take, drop, length-append, length-drop, drop-of-length-le}
+use lib.Seq.{paste, set-split, take-all, take-paste, length-paste, length-take-le, drop-append-le}
+use Rattle.resting.specs.Rest.{rests, restedIn}
 
 module _ (l : List ℕ) (x : ℕ) where
   pub rests-few : length l < 16 → rests l x ≡ l ++ (x ∷ [])
@@ -55,21 +50,3 @@ rested-full r x h =
     ∙ ap (λ (l : List ℕ). (drop 1 r ++ (x ∷ [])) ++ l) (drop-of-length-le r {i = 16} (omega arith))
     ∙ append-assoc (drop 1 r) (x ∷ []) []
     ∙ sym (set-split p 15 x (omega arith) ∙ ap (λ (l : List ℕ). l ++ (x ∷ drop 16 p)) front ∙ ap (λ (l : List ℕ). drop 1 r ++ (x ∷ l)) (drop-of-length-le p {i = 16} (omega arith)))
-
--- A line is closed, its record and those that rest put in as they are to be, however the identifier was read.
-pub closes : (b : Book) (i n : ℕ) (d : Line) {c : Line} {r : List ℕ} → i < length (b .lines) → length (restingOf b) ≤ 16 → n ≡ min 16 (length (restingOf b) + 1) → c ≡ closedLine
-    → r ≡ restedIn (b .resting) (rests (restingOf b) (getD (b .lines) i d .identifier)) → record { lines = set (b .lines) i c; resting = r; rested = n } ≡ closedAt b i
-unfolding closedAt
-closes b i n d h m k p q =
-    let x = lineOf b i .identifier in
-    let e : getD (b .lines) i d .identifier ≡ x = ap (λ (l : Line). l .identifier) (getD-any (b .lines) i d closedLine h) in
-    λ j. record {
-      lines = set (b .lines) i (p j);
-      resting = (q ∙ ap (λ (y : ℕ). restedIn (b .resting) (rests (restingOf b) y)) e) j;
-      rested = (k ∙ sym (rests-count (restingOf b) x m)) j;
-    }
-
--- those that rest once a line is closed
-pub closed-resting : (b : Book) (i : ℕ) → restingOf (closedAt b i) ≡ rests (restingOf b) (lineOf b i .identifier)
-unfolding closedAt
-closed-resting b i = let l = rests (restingOf b) (lineOf b i .identifier) in take-append-seam l (drop (length l) (b .resting))

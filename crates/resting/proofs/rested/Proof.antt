@@ -1,5 +1,5 @@
-use Rattle.book.proofs.Resting.{rested-few, rested-full}
-use Rattle.book.specs.Rest.{rests, restedIn}
+use Rattle.resting.proofs.Resting.{rested-few, rested-full}
+use Rattle.resting.specs.Rest.{rests, restedIn}
 use Rattle.owed.proofs.Lists.{shift-step}
 use lib.Seq.{paste, paste-zero}
 use lib.ListN.{length, take, drop, getD, set}
@@ -8,8 +8,8 @@ use mathlib.Core.List.{List}
 use Prim.Native.Nat.{ℕ, _≤_, _-_, _+_}
 use native.Mathlib.Omega.{arith}
 use borrow.Author.Needs.{needs}
-use Rattle.book.proofs.rested.Statement.{statement}
-use Rattle.book.proofs.rested.Tie as tie
+use Rattle.resting.proofs.rested.Statement.{statement}
+use Rattle.resting.proofs.rested.Tie as tie
 
 abbrev Inv-loop : tie.InvT-loop
 Inv-loop n identifier resting next₀ i₀ next i = (i ≤ 15) × (next ≡ paste resting 0 (drop 1 resting) i)

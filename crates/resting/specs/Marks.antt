@@ -1,5 +1,5 @@
 -- A device of the proof: identifiers seen one after another and marked in 128 places. None comes twice exactly if each finds its
--- place without a mark, which is proved in proofs/Once.antt. The definitions stand here since contracts of inner functions cite them;
+-- place without a mark, which is proved in proofs/Once.antt. The definitions stand here since contracts of steps of BOOK's test cite them;
 -- what BOOK asks is said by `noTwice` and does not rest on them.
 -- Assumes nothing.
 use Prim.Native.Nat.{ℕ}

@@ -12,9 +12,9 @@ use borrow.Author.Tests.{leb-true, eqb-true, eqb-false}
 use Rattle.ground.proofs.Picks.{both-true}
 use Rattle.ground.proofs.Either.{by-test}
 use Rattle.owed.specs.Owed.{member, noTwice}
-use Rattle.book.specs.Book.{allSpan}
-use Rattle.book.proofs.Turns.{getD-alike}
-use Rattle.book.specs.Marks.{newIn, marked, none}
+use Rattle.resting.specs.Rest.{allSpan}
+use Rattle.resting.proofs.Turns.{getD-alike}
+use Rattle.resting.specs.Marks.{newIn, marked, none}
 
 -- What is still to be seen, after what was found and marked before, comes to t and to the marks n in the end.
 abbrev pub Comes : Bool → List ℕ → List ℕ → Bool → List ℕ → Type 0

@@ -1,0 +1,4 @@
+pub mod Turns
+pub mod Resting
+pub mod Spans
+pub mod Once
