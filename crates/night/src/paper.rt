@@ -133,7 +133,7 @@ pub fn table(out: &mut [u8], tally: &[u64]) {
     say(out, b"");
     say(
         out,
-        b"line  channel  way                taken handed out    by slip     octets    packets       lost   repeated  overtaken    refused",
+        b"line  channel  way                taken handed out    by slip     octets    packets       lost   repeated  reordered    refused",
     );
     let mut i = 0u64;
     while i < 16 {
