@@ -32,13 +32,14 @@ use Rattle.mode.specs.declared.Ticked.{Ticked}
 use Rattle.mode.specs.declared.Ticked.the-variants as ticked
 use Rattle.mode.specs.declared.Ticking.{Ticking}
 use Rattle.mode.proofs.Tries.{due-tries}
-use Rattle.gateway.specs.Says.{openedSays, takenSays, arrivedSays, reportSays, Tries}
-use Rattle.gateway.specs.declared.Taken.{Taken}
-use Rattle.gateway.specs.declared.Taken.the-variants as taken
-use Rattle.gateway.specs.declared.Arrived.{Arrived}
-use Rattle.gateway.specs.declared.Arrived.the-variants as arrived
-use Rattle.gateway.specs.declared.Report.{Report}
-use Rattle.gateway.specs.declared.Report.the-variants as report
+use Rattle.gateway.specs.Says.{openedSays, Tries}
+use Rattle.traffic.specs.Says.{takenSays, arrivedSays, reportSays}
+use Rattle.traffic.specs.declared.Taken.{Taken}
+use Rattle.traffic.specs.declared.Taken.the-variants as taken
+use Rattle.traffic.specs.declared.Arrived.{Arrived}
+use Rattle.traffic.specs.declared.Arrived.the-variants as arrived
+use Rattle.traffic.specs.declared.Report.{Report}
+use Rattle.traffic.specs.declared.Report.the-variants as report
 
 -- Which refusal has a number: the table 'Refusal numbers' read the other way.
 abbrev refusalAt : ℕ → Refusal

@@ -1,5 +1,2 @@
-pub mod Dids
-pub mod Passing
-pub mod Refusing
-pub mod Slips
 pub mod Answers
+pub mod Slips

@@ -22,7 +22,7 @@ use Rattle.line.specs.Fit.{largest, lineFits}
 use Rattle.line.specs.declared.Line.{Line}
 use Rattle.line.proofs.Keeps.{line-ok}
 use Rattle.order.specs.Order.{closeTests}
-use Rattle.gateway.specs.Did.{slipOf}
+use Rattle.did.specs.Did.{slipOf}
 
 -- "handed out at most as many": a count has its 24 bits
 counted : (w : ℕ) (r : Receiving) → w ≤ widest → receivingFits w largest r ≡ true → ltb (r .next) 16777216 ≡ true

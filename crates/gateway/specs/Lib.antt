@@ -1,2 +1,1 @@
-pub mod Did
 pub mod Says

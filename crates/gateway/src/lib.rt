@@ -12,10 +12,9 @@ ghost use Rattle.mode.specs.Acts as act;
 ghost use Rattle.mode.specs.Says.{heardSays, askedSays, tickedSays};
 ghost use Rattle.book.specs.Book.{freshBook};
 ghost use Rattle.order.specs.Call as call;
-ghost use Rattle.gateway.specs.Did.{made, did, slipOf};
-ghost use Rattle.gateway.specs.Says.{openedSays, takenSays, arrivedSays, reportSays, Tries};
+ghost use Rattle.did.specs.Did.{made, did, slipOf};
+ghost use Rattle.gateway.specs.Says.{openedSays, Tries};
 use book::Book;
-use ground::Refusal;
 use ground::Verdict;
 use ground::Written;
 use line::Line;
@@ -24,19 +23,27 @@ use mode::Asked;
 use mode::Heard;
 use mode::Modes;
 use mode::Ticked;
-use order::MayArrive;
 use slip::Slip;
-use writing::MaySend;
+
+// The calls in modem relay stand in `traffic`, with what each refuses.
+pub use traffic::arrive; // a packet arrives: answers the line that its identifier says
+pub use traffic::empty; // writes an empty packet: acknowledgements and base news
+pub use traffic::hand_out; // hands out message R of a channel
+pub use traffic::held; // reports how many messages of a channel are held unacknowledged
+pub use traffic::send; // writes a held message, by its rank, as a packet
+pub use traffic::take; // takes a message for sending: answers its number
+
+// What they answer.
+pub use traffic::Arrived;
+pub use traffic::Came;
+pub use traffic::Gave;
+pub use traffic::Report;
+pub use traffic::Taken;
+pub use traffic::Took;
 
 pub struct Opened {
     pub book: Book,
     pub answer: Verdict,
-}
-
-// What a call leaves that writes into an output: how many octets were written there.
-pub struct Gave {
-    pub book: Book,
-    pub answer: Written,
 }
 
 pub struct Hears {
@@ -52,34 +59,6 @@ pub struct Asks {
 pub struct Ticks {
     pub book: Book,
     pub answer: Ticked,
-}
-
-// The number that a message taken has, in the 14 bits of a packet.
-pub enum Taken {
-    Number(u16),
-    Refused(Refusal),
-}
-
-pub struct Took {
-    pub book: Book,
-    pub answer: Taken,
-}
-
-// The line that a packet was for.
-pub enum Arrived {
-    At(u8),
-    Refused(Refusal),
-}
-
-pub struct Came {
-    pub book: Book,
-    pub answer: Arrived,
-}
-
-// How many messages are held unacknowledged.
-pub enum Report {
-    Holds(u32),
-    Refused(Refusal),
 }
 
 // A fresh book: four closed lines, and no identifier rests.
@@ -212,126 +191,5 @@ pub fn tick(book: Book, line: u8, time: u64) -> Ticks
             let next = book.with_line(line, stepped);
             Ticks { book: next, answer }
         }
-    }
-}
-
-// Takes a message of 1 to 132 octets for sending on channel 1 or 2. Answers its number.
-// Refuses BOOK, ROOM for the store, RANGE for the line, NOLINE, MODE, CHANNEL, SIZE, SPENT, FULL.
-pub fn take(book: Book, store: &mut [u8], line: u8, channel: u8, message: &[u8]) -> Took
-    ensures { λ r. ⌜ ((out : List ℕ) → made (takenSays (r .answer)) (r .book) (now (store .exit)) out ≡ did (call.taking line channel (now (message .entry))) book (now (store .entry)) out) ⌝ }
-{
-    let verdict = admit::may_take(book, store.len(), line, channel, message.len());
-    match verdict {
-        Verdict::Refuse(r) => Took {
-            book,
-            answer: Taken::Refused(r),
-        },
-        Verdict::Pass => {
-            let l = book.line(line);
-            let number = (l.sending(channel).taken & 0x3fff) as u16;
-            let taken = relay::take(l, line, store, channel, message);
-            let next = book.with_line(line, taken);
-            Took {
-                book: next,
-                answer: Taken::Number(number),
-            }
-        }
-    }
-}
-
-// Writes a held message, by its rank among the unacknowledged ones of its channel, as a packet.
-// Refuses BOOK, ROOM for the store, RANGE for the line, NOLINE, MODE, CHANNEL, NOTHING, ROOM for the output.
-pub fn send(book: Book, store: &[u8], line: u8, channel: u8, rank: u8, out: &mut [u8]) -> Gave
-    ensures { λ r. ⌜ made (writtenAnswer (r .answer)) (r .book) (now (store .entry)) (now (out .exit)) ≡ did (call.sending line channel rank) book (now (store .entry)) (now (out .entry)) ⌝ }
-{
-    let may = admit::may_send(book, store.len(), line, channel, rank, out.len());
-    match may {
-        MaySend::Refused(r) => Gave {
-            book,
-            answer: Written::Refused(r),
-        },
-        MaySend::Message(h) => {
-            let sent = writing::send(book.line(line), line, store, channel, h, out);
-            let answer = sent.answer;
-            let next = book.with_line(line, sent.line);
-            Gave { book: next, answer }
-        }
-    }
-}
-
-// Writes an empty packet on channel 0, 1 or 2: acknowledgements, and base news on 1 and 2.
-// Refuses BOOK, RANGE for the line, NOLINE, MODE, CHANNEL, ROOM for the output.
-pub fn empty(book: Book, line: u8, channel: u8, out: &mut [u8]) -> Gave
-    ensures { λ r. ⌜ ((store : List ℕ) → made (writtenAnswer (r .answer)) (r .book) store (now (out .exit)) ≡ did (call.empty line channel) book store (now (out .entry))) ⌝ }
-{
-    let verdict = admit::may_write_empty(book, line, channel, out.len());
-    match verdict {
-        Verdict::Refuse(r) => Gave {
-            book,
-            answer: Written::Refused(r),
-        },
-        Verdict::Pass => {
-            let sent = writing::write_empty(book.line(line), channel, out);
-            let answer = sent.answer;
-            let next = book.with_line(line, sent.line);
-            Gave { book: next, answer }
-        }
-    }
-}
-
-// A packet arrives. Its identifier says which line it is for, and the answer says which that is.
-// Refuses BOOK, ROOM for the store, SHORT for 6 octets, FORM, NOLINE, TYPE, MODE, SHORT for the list, CHANNEL, SIZE.
-pub fn arrive(book: Book, store: &mut [u8], packet: &[u8]) -> Came
-    ensures { λ r. ⌜ ((out : List ℕ) → made (arrivedSays (r .answer)) (r .book) (now (store .exit)) out ≡ did (call.arrival (now (packet .entry))) book (now (store .entry)) out) ⌝ }
-{
-    let may = admit::may_arrive(book, store.len(), packet);
-    match may {
-        MayArrive::Refused(r) => Came {
-            book,
-            answer: Arrived::Refused(r),
-        },
-        MayArrive::At(line) => {
-            let arrived = arriving::arrive(book.line(line), line, store, packet);
-            let next = book.with_line(line, arrived);
-            Came {
-                book: next,
-                answer: Arrived::At(line),
-            }
-        }
-    }
-}
-
-// Hands out message R of a channel into the output.
-// Refuses BOOK, ROOM for the store, RANGE for the line, NOLINE, MODE, CHANNEL, SPENT, NOTHING, ROOM for the output.
-pub fn hand_out(book: Book, store: &[u8], line: u8, channel: u8, out: &mut [u8]) -> Gave
-    ensures { λ r. ⌜ made (writtenAnswer (r .answer)) (r .book) (now (store .entry)) (now (out .exit)) ≡ did (call.handOut line channel) book (now (store .entry)) (now (out .entry)) ⌝ }
-{
-    let verdict = admit::may_hand_out(book, store.len(), line, channel, out.len());
-    match verdict {
-        Verdict::Refuse(r) => Gave {
-            book,
-            answer: Written::Refused(r),
-        },
-        Verdict::Pass => {
-            let l = book.line(line);
-            let size = l.receiving(channel).next_size() as usize;
-            let handed = relay::hand_out(l, line, store, channel, out);
-            let next = book.with_line(line, handed);
-            Gave {
-                book: next,
-                answer: Written::Wrote(size),
-            }
-        }
-    }
-}
-
-// Reports how many messages of a channel are held unacknowledged. Refuses BOOK, RANGE for the line, NOLINE, MODE, CHANNEL.
-pub fn held(book: Book, line: u8, channel: u8) -> Report
-    ensures { λ r. ⌜ ((store out : List ℕ) → made (reportSays r) book store out ≡ did (call.report line channel) book store out) ⌝ }
-{
-    let verdict = admit::may_report(book, line, channel);
-    match verdict {
-        Verdict::Refuse(r) => Report::Refused(r),
-        Verdict::Pass => Report::Holds(relay::held(book.line(line), channel)),
     }
 }

@@ -29,7 +29,7 @@ use Rattle.book.specs.Book.{lineOf}
 use Rattle.order.specs.Call.{Call}
 use Rattle.order.specs.Call as call
 use Rattle.order.specs.Order.{lineFor}
-use Rattle.gateway.specs.Did.{did, effect}
+use Rattle.did.specs.Did.{did, effect}
 use Rattle.promise.specs.Past.{Mark, Packet, Past, there, renewed, enter, enterAll, handedPast, wrotePast, heardPast}
 use Rattle.promise.specs.Run.{Gateway, does, after, given, lineAt, Each, none, also, Recent, Honest, rankedMark, baseMark, emptyPacket, handed, wrote, heard}
 use Rattle.promise.specs.Promise.{receivesBy, AllCame}

@@ -37,7 +37,7 @@ use Rattle.book.specs.Book.{freshBook, openIn, linesFit, bookFits, whoseFrom}
 use Rattle.order.specs.Call.{Call}
 use Rattle.order.specs.Call as call
 use Rattle.order.specs.Order.{openTests, modeTests, addressTests, arrivalTests, lineFor, tests}
-use Rattle.gateway.specs.Did.{did, done, effect}
+use Rattle.did.specs.Did.{did, done, effect}
 use Rattle.laws.specs.Reached.{Turn, reach}
 use Rattle.laws.proofs.Identifiers.{reached-passes}
 use Rattle.promise.specs.Run.{Gateway, does, given, lineAt}

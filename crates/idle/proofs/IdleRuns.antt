@@ -40,7 +40,7 @@ use Rattle.book.specs.Book.{openIn, linesFit, bookFits, whoseFrom}
 use Rattle.order.specs.Call.{Call}
 use Rattle.order.specs.Call as call
 use Rattle.order.specs.Order.{openTests, modeTests, addressTests, arrivalTests, lineFor, tests}
-use Rattle.gateway.specs.Did.{did, done, effect}
+use Rattle.did.specs.Did.{did, done, effect}
 use Rattle.promise.specs.Build.{Does}
 use Rattle.promise.specs.Past.{Packet, Past, nothingYet, justOpened, tookPast, wrotePast, heardPast}
 use Rattle.promise.specs.Past as marks

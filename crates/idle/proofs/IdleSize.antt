@@ -44,7 +44,7 @@ use Rattle.book.proofs.Facts.{line-fits}
 use Rattle.order.specs.Call.{Call}
 use Rattle.order.specs.Call as call
 use Rattle.order.specs.Order.{openTests, modeTests, lineFor, tests}
-use Rattle.gateway.specs.Did.{Did, did, done, effect}
+use Rattle.did.specs.Did.{Did, did, done, effect}
 use Rattle.promise.specs.Past.{Past, nothingYet, justOpened, heardPast}
 use Rattle.promise.specs.Run.{Gateway, does, after, lineAt, rankedMark, moded, heard, opens, calls, Step, Goes, stay, here, there, Run}
 use Rattle.promise.specs.Promise.{receivesBy, AllCame, HandsOut}

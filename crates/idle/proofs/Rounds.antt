@@ -21,7 +21,7 @@ use Rattle.book.specs.Book.{lineOf}
 use Rattle.order.specs.Call.{Call}
 use Rattle.order.specs.Call as call
 use Rattle.order.specs.Order.{lineFor}
-use Rattle.gateway.specs.Did.{did, effect}
+use Rattle.did.specs.Did.{did, effect}
 use Rattle.promise.specs.Past.{Mark, Packet, Past, tookPast, wrotePast}
 use Rattle.promise.specs.Run.{Gateway, does, after, lineAt, Each, none, also, Recent, Honest, rankedMark, baseMark, sentPacket, took, sent}
 use Rattle.promise.specs.Promise.{sendsBy, reportBy}

@@ -11,7 +11,7 @@ use Rattle.ground.specs.Pick.{pick}
 use Rattle.line.specs.Line.{closedLine}
 use Rattle.book.specs.Book.{lineOf}
 use Rattle.order.specs.Call.{Call}
-use Rattle.gateway.specs.Did.{Did, did}
+use Rattle.did.specs.Did.{Did, did}
 use Rattle.promise.specs.Build.{Does}
 use Rattle.promise.specs.Past.{Past}
 use Rattle.promise.specs.Run.{Gateway, does, after, lineAt, Adds, Step, calls, here, Run}

@@ -21,7 +21,7 @@ use Rattle.book.specs.Book.{lineOf, withLine, openIn}
 use Rattle.book.specs.declared.Book.{Book}
 use Rattle.order.specs.Call as call
 use Rattle.order.specs.Order.{lineFor}
-use Rattle.gateway.specs.Did.{Did, made, did}
+use Rattle.did.specs.Did.{Did, made, did}
 use Rattle.promise.specs.Build.{Does, Left, Build, ours}
 
 -- "one refusing everything", with whatever number

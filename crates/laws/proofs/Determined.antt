@@ -11,16 +11,17 @@ use Rattle.line.specs.declared.Settings.{Settings}
 use Rattle.book.specs.declared.Book.{Book}
 use Rattle.order.specs.Call.{Call}
 use Rattle.order.specs.Call as call
-use Rattle.gateway.specs.Did.{Did, made, did}
-use Rattle.gateway.specs.Says.{openedSays, takenSays, arrivedSays, reportSays, Tries}
+use Rattle.did.specs.Did.{Did, made, did}
+use Rattle.gateway.specs.Says.{openedSays, Tries}
+use Rattle.traffic.specs.Says.{takenSays, arrivedSays, reportSays}
 use Rattle.gateway.specs.declared.Opened.{Opened}
-use Rattle.gateway.specs.declared.Gave.{Gave}
+use Rattle.traffic.specs.declared.Gave.{Gave}
 use Rattle.gateway.specs.declared.Hears.{Hears}
 use Rattle.gateway.specs.declared.Asks.{Asks}
 use Rattle.gateway.specs.declared.Ticks.{Ticks}
-use Rattle.gateway.specs.declared.Took.{Took}
-use Rattle.gateway.specs.declared.Came.{Came}
-use Rattle.gateway.specs.declared.Report.{Report}
+use Rattle.traffic.specs.declared.Took.{Took}
+use Rattle.traffic.specs.declared.Came.{Came}
+use Rattle.traffic.specs.declared.Report.{Report}
 use Rattle.gateway.proofs.Answers.{one-opened, one-written, one-heard, one-asked, one-ticked, one-taken, one-arrived, one-report}
 
 -- what is made up of the same has the same parts

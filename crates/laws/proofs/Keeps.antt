@@ -48,8 +48,8 @@ use Rattle.order.specs.Call.{Call}
 use Rattle.order.specs.Call as call
 use Rattle.order.specs.Order.{tests, lineFor, openTests, closeTests, modeTests, packetLine, lineAt}
 use Rattle.order.proofs.Firsts.{line-passed, both-passed}
-use Rattle.gateway.specs.Did.{Did, did, done, effect}
-use Rattle.gateway.proofs.Passing.{addressed}
+use Rattle.did.specs.Did.{Did, did, done, effect}
+use Rattle.traffic.proofs.Passing.{addressed}
 
 -- a book that passes: BOOK lets it pass, and its arrays have the lengths that they are declared with
 abbrev pub Passes : Book → Type 0

@@ -23,8 +23,8 @@ use Rattle.book.proofs.Apart.{line-same, closed-same}
 use Rattle.order.specs.Call.{Call}
 use Rattle.order.specs.Call as call
 use Rattle.order.specs.Order.{tests, lineFor}
-use Rattle.gateway.specs.Did.{Did, Effect, did, done, effect}
-use Rattle.gateway.proofs.Dids.{did-done}
+use Rattle.did.specs.Did.{Did, Effect, did, done, effect}
+use Rattle.did.proofs.Dids.{did-done}
 use Rattle.laws.proofs.LineFor.{line-number}
 
 -- a call that puts an identifier to rest leaves a closed line

@@ -38,8 +38,8 @@ use Rattle.book.proofs.Unread.{closed-unread, taken-unread, whose-unread}
 use Rattle.order.specs.Call.{Call}
 use Rattle.order.specs.Call as call
 use Rattle.order.specs.Order.{tests, lineFor, fitBook, roomy, lineNumber, isOpen, openTests, closeTests, modeTests, packetLine, isSomebody, lineAt, addressTests, arrivalTests}
-use Rattle.gateway.specs.Did.{Did, Effect, made, did, done, effect}
-use Rattle.gateway.proofs.Dids.{did-done, did-refused}
+use Rattle.did.specs.Did.{Did, Effect, made, did, done, effect}
+use Rattle.did.proofs.Dids.{did-done, did-refused}
 use Rattle.laws.proofs.Own.{accepted-passes}
 use Rattle.laws.proofs.LineFor.{opens, pass-address, pass-open}
 

@@ -4,7 +4,7 @@ use Prim.Native.Nat.{ℕ}
 use mathlib.Core.List.{List, [], _∷_}
 use Rattle.book.specs.declared.Book.{Book}
 use Rattle.order.specs.Call.{Call}
-use Rattle.gateway.specs.Did.{did}
+use Rattle.did.specs.Did.{did}
 
 -- a call, with the output that is lent to it
 pub record Turn : Type 0 where

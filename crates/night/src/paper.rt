@@ -133,7 +133,7 @@ pub fn table(out: &mut [u8], tally: &[u64]) {
     say(out, b"");
     say(
         out,
-        b"line  channel  way                taken handed out    by slip     octets    packets       lost   repeated  overtaken    refused",
+        b"line  channel  way                taken handed out    by slip     octets    packets       lost   repeated  reordered    refused",
     );
     let mut i = 0u64;
     while i < 16 {
@@ -187,15 +187,20 @@ fn judgement(out: &mut [u8], at: usize, right: bool) -> usize {
     )
 }
 
-// Writes whether every message taken was handed out once, in order and octet for octet.
-pub fn verdict(out: &mut [u8], tally: &[u64]) {
-    say(out, b"");
-    let at = judgement(out, 0, right(tally));
+// Puts how many were taken and handed out, of how many.
+fn figures(out: &mut [u8], at: usize, tally: &[u64]) -> usize {
     let at = words::decimal(out, at, tally::sum(tally, tally::TAKEN));
     let at = words::put(out, at, b" taken,");
     let at = words::decimal(out, at, tally::sum(tally, tally::HANDED));
     let at = words::put(out, at, b" handed out, of");
-    let at = words::decimal(out, at, tally::sum(tally, tally::ASKED));
+    words::decimal(out, at, tally::sum(tally, tally::ASKED))
+}
+
+// Writes whether every message taken was handed out once, in order and octet for octet.
+pub fn verdict(out: &mut [u8], tally: &[u64]) {
+    say(out, b"");
+    let at = judgement(out, 0, right(tally));
+    let at = figures(out, at, tally);
     line(out, at);
 }
 

@@ -30,8 +30,8 @@ use Rattle.book.proofs.Facts.{line-fits}
 use Rattle.order.specs.Call.{Call}
 use Rattle.order.specs.Call as call
 use Rattle.order.specs.Order.{lineFor, fitBook, lineNumber, isOpen}
-use Rattle.gateway.specs.Did.{Did, made, did, effect}
-use Rattle.gateway.proofs.Dids.{moved-did}
+use Rattle.did.specs.Did.{Did, made, did, effect}
+use Rattle.did.proofs.Dids.{moved-did}
 use Rattle.laws.proofs.Keeps.{every-call-keeps}
 use Rattle.laws.proofs.Others.{others-stay, rooms-stay}
 use Rattle.promise.specs.Past.{Past, justOpened}

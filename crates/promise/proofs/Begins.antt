@@ -25,7 +25,7 @@ use Rattle.resting.proofs.Turns.{getD-alike}
 use Rattle.order.specs.Call.{Call}
 use Rattle.order.specs.Call as call
 use Rattle.order.specs.Order.{tests, lineFor, fitBook, lineNumber, openTests, modeTests}
-use Rattle.gateway.specs.Did.{did, effect}
+use Rattle.did.specs.Did.{did, effect}
 use Rattle.promise.specs.Past.{nothingYet, justOpened}
 use Rattle.promise.specs.Run.{Gateway, freshWith, lineAt}
 use Rattle.promise.specs.Ours.{after}

@@ -34,7 +34,7 @@ use Rattle.line.specs.declared.Line.{Line}
 use Rattle.book.proofs.Facts.{line-fits}
 use Rattle.order.specs.Call as call
 use Rattle.order.specs.Order.{tests, lineFor, fitBook, lineNumber, closeTests}
-use Rattle.gateway.specs.Did.{effect, slipOf}
+use Rattle.did.specs.Did.{effect, slipOf}
 use Rattle.gateway.proofs.Slips.{slip-passes}
 use Rattle.promise.specs.Build.{leftBy, ours}
 use Rattle.promise.specs.Past.{nothingYet}

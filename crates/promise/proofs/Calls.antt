@@ -26,7 +26,7 @@ use Rattle.writing.proofs.Keeps.{wrote-line-same}
 use Rattle.order.specs.Call.{Call}
 use Rattle.order.specs.Call as call
 use Rattle.order.specs.Order.{tests, lineFor, fitBook, roomy, lineNumber}
-use Rattle.gateway.specs.Did.{effect}
+use Rattle.did.specs.Did.{effect}
 use Rattle.flow.specs.Flow.{Message}
 use Rattle.promise.specs.Past.{Mark, Past, tookPast, handedPast, wrotePast}
 use Rattle.promise.specs.Run.{Gateway, given, lineAt, Relays, rankedMark, baseMark, sentPacket, emptyPacket}

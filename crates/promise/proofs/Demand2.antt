@@ -24,8 +24,8 @@ use Rattle.book.specs.Book.{lineOf}
 use Rattle.book.proofs.Apart.{line-same}
 use Rattle.order.specs.Call as call
 use Rattle.order.specs.Order.{fitBook, lineNumber, isOpen}
-use Rattle.gateway.specs.Did.{Did}
-use Rattle.gateway.proofs.Dids.{settles, moved-did}
+use Rattle.did.specs.Did.{Did}
+use Rattle.did.proofs.Dids.{settles, moved-did}
 use Rattle.line.specs.Mode.{steppedTo}
 use Rattle.promise.specs.Build.{ours}
 use Rattle.promise.specs.Run.{Gateway, accepts, lineAt, Relays}

@@ -18,7 +18,7 @@ use Rattle.relay.proofs.Lines.{channel-span}
 use Rattle.order.specs.Call.{Call}
 use Rattle.order.specs.Call as call
 use Rattle.order.specs.Order.{lineFor}
-use Rattle.gateway.specs.Did.{did, effect}
+use Rattle.did.specs.Did.{did, effect}
 use Rattle.laws.proofs.Own.{own-values}
 use Rattle.promise.specs.Build.{Does, ours}
 use Rattle.promise.specs.Past.{Packet, Past, tookPast, handedPast, wrotePast, heardPast}

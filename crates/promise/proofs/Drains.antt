@@ -15,7 +15,7 @@ use Rattle.relay.specs.Asked.{reliable}
 use Rattle.order.specs.Call.{Call}
 use Rattle.order.specs.Call as call
 use Rattle.order.specs.Order.{lineFor}
-use Rattle.gateway.specs.Did.{effect}
+use Rattle.did.specs.Did.{effect}
 use Rattle.promise.specs.Past.{Past, handedPast}
 use Rattle.promise.specs.Run.{Gateway, given, handed, calls, there}
 use Rattle.promise.specs.Promise.{sendsBy, receivesBy, InRelay, AllCame, outAt, done, next, Ample}

@@ -20,7 +20,7 @@ use Rattle.effect.proofs.Effects.{narrow}
 use Rattle.order.specs.Call.{Call}
 use Rattle.order.specs.Call as call
 use Rattle.order.specs.Order.{lineFor}
-use Rattle.gateway.specs.Did.{effect}
+use Rattle.did.specs.Did.{effect}
 use Rattle.promise.specs.Past.{Mark, Packet, Past, wrotePast, heardPast}
 use Rattle.promise.specs.Run.{Gateway, lineAt, Each, none, also, Recent, Honest, rankedMark, baseMark, sentPacket, emptyPacket, sent, wrote, heard, stay, here, there}
 use Rattle.promise.specs.Promise.{sendsBy, InRelay, AllCame}

@@ -27,7 +27,7 @@ use Rattle.order.specs.Call.{Call}
 use Rattle.order.specs.Call as call
 use Rattle.order.specs.Order.{tests, lineFor, fitBook, roomy, isSomebody, packetLine, addressTests, arrivalTests}
 use Rattle.order.specs.Order as order
-use Rattle.gateway.specs.Did.{effect}
+use Rattle.did.specs.Did.{effect}
 use Rattle.laws.proofs.Identifiers.{fresh-passes}
 use Rattle.promise.specs.Past.{Packet, Past, nothingYet, heardPast}
 use Rattle.promise.specs.Run.{Gateway, lineAt, Relays, Honest, refused, elsewhere, moded, reported, took, handed, sent, wrote, heard, before, opens, calls, stay, here, there, freshWith}

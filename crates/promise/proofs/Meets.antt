@@ -32,7 +32,7 @@ use Rattle.book.proofs.Fresh.{fresh-fits}
 use Rattle.resting.proofs.Turns.{getD-alike}
 use Rattle.order.specs.Call as call
 use Rattle.order.specs.Order.{tests, lineFor, fitBook, lineNumber, openTests}
-use Rattle.gateway.specs.Did.{effect}
+use Rattle.did.specs.Did.{effect}
 use Rattle.promise.specs.Past.{Past, nothingYet, justOpened, more}
 use Rattle.promise.specs.Ours.{after, Step, Run}
 use Rattle.promise.specs.Run.{Gateway, lineAt, Relays, moded, took, opens, calls, stay, here, there, freshWith}

@@ -35,7 +35,7 @@ use Rattle.book.proofs.Owner.{whose-at}
 use Rattle.order.specs.Call as call
 use Rattle.order.specs.Order.{tests, lineFor, fitBook, roomy, lineNumber, packetLine, isSomebody, addressTests, arrivalTests}
 use Rattle.order.specs.Order as order
-use Rattle.gateway.specs.Did.{effect}
+use Rattle.did.specs.Did.{effect}
 use Rattle.laws.proofs.Own.{own-values}
 use Rattle.promise.specs.Run.{Gateway, accepts, given, lineAt, Relays}
 use Rattle.promise.specs.Ours.{does}

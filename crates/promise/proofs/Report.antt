@@ -25,8 +25,8 @@ use Rattle.relay.specs.Asked.{reliable, relayTests}
 use Rattle.book.proofs.Facts.{line-fits}
 use Rattle.order.specs.Call as call
 use Rattle.order.specs.Order.{tests, lineFor, fitBook, lineNumber}
-use Rattle.gateway.specs.Did.{Did, done, effect}
-use Rattle.gateway.proofs.Dids.{did-done}
+use Rattle.did.specs.Did.{Did, done, effect}
+use Rattle.did.proofs.Dids.{did-done}
 use Rattle.promise.specs.Build.{ours}
 use Rattle.promise.specs.Run.{Gateway, lineAt, Relays}
 use Rattle.promise.specs.Ours.{does}

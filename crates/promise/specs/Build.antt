@@ -18,7 +18,7 @@ use Rattle.breaks.specs.declared.Break.{Break}
 use Rattle.slip.specs.Slip as slip
 use Rattle.book.specs.declared.Book.{Book}
 use Rattle.order.specs.Call.{Call}
-use Rattle.gateway.specs.Did.{Did, did}
+use Rattle.did.specs.Did.{Did, did}
 
 -- a call on a book, with the store and the output that are lent to it
 abbrev pub Does : Type 0

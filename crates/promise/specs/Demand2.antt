@@ -43,7 +43,7 @@ use Rattle.writing.specs.Send.{ranked, heldIn}
 use Rattle.book.specs.Book.{bookFits}
 use Rattle.book.specs.Shape.{BookShaped}
 use Rattle.order.specs.Call as call
-use Rattle.gateway.specs.Did.{Did}
+use Rattle.did.specs.Did.{Did}
 use Rattle.promise.specs.Build.{Left, Build}
 use Rattle.promise.specs.Run.{Gateway, does, after, accepts, given, lineAt, Relays}
 

@@ -3,7 +3,7 @@
 use Prim.Native.Nat.{ℕ}
 use mathlib.Core.List.{List}
 use Rattle.order.specs.Call.{Call}
-use Rattle.gateway.specs.Did.{Did, did}
+use Rattle.did.specs.Did.{Did, did}
 use Rattle.promise.specs.Past.{Past}
 use Rattle.promise.specs.Run.{Gateway}
 use Rattle.promise.specs.Run as run

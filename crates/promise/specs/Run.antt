@@ -18,7 +18,7 @@ use Rattle.book.specs.declared.Book.{Book}
 use Rattle.order.specs.Call.{Call}
 use Rattle.order.specs.Call as call
 use Rattle.order.specs.Order.{lineFor}
-use Rattle.gateway.specs.Did.{Did}
+use Rattle.did.specs.Did.{Did}
 use Rattle.flow.specs.Flow.{Message}
 use Rattle.promise.specs.Build.{Does}
 use Rattle.promise.specs.Past.{Mark, Packet, Past, nothingYet, justOpened, tookPast, handedPast, wrotePast, heardPast}

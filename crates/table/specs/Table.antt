@@ -48,7 +48,7 @@ use Rattle.book.specs.Rest.{closedAt}
 use Rattle.book.specs.declared.Book.{Book}
 use Rattle.order.specs.Call as call
 use Rattle.order.specs.Order.{openTests, closeTests, tests, lineFor}
-use Rattle.gateway.specs.Did.{did, done, effect, slipOf}
+use Rattle.did.specs.Did.{did, done, effect, slipOf}
 
 -- 1. Identifier 5, type 98, channel 1, number 0, base 0, payload 41
 abbrev packet-one : List ℕ

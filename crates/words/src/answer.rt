@@ -2,6 +2,7 @@
 ghost use mathlib.Core.Path.{_≡_};
 ghost use Prim.Native.Nat.{_≤_};
 ghost use Rattle.words.specs.Words.{upperDigit};
+use crate::next;
 use ground::Refusal;
 
 // Puts one octet at a place, and answers the next place.
@@ -64,26 +65,21 @@ pub fn hexadecimal(out: &mut [u8], at: usize, octets: &[u8]) -> usize {
     n
 }
 
+// Puts the name of the refusal of a number: it is the word that begins nine octets further for each.
+fn name(out: &mut [u8], at: usize, number: u8) -> usize {
+    let names: &[u8] =
+        b"-        SHORT    FORM     TYPE     NOLINE   MODE     CHANNEL  SIZE     FULL     SPENT    NOTHING  ROOM     TAKEN    RANGE    CLOCK    RECOVERY LENGTH   RESERVED BOOK";
+    let word = next(names, 9 * number as usize);
+    let from = word.from;
+    let to = word.to;
+    put(out, at, &names[from..to])
+}
+
 // Puts a refusal: its number and its name.
 pub fn refusal(out: &mut [u8], r: Refusal) -> usize {
-    match r {
-        Refusal::SHORT => put(out, 0, b"no 1 SHORT"),
-        Refusal::FORM => put(out, 0, b"no 2 FORM"),
-        Refusal::TYPE => put(out, 0, b"no 3 TYPE"),
-        Refusal::NOLINE => put(out, 0, b"no 4 NOLINE"),
-        Refusal::MODE => put(out, 0, b"no 5 MODE"),
-        Refusal::CHANNEL => put(out, 0, b"no 6 CHANNEL"),
-        Refusal::SIZE => put(out, 0, b"no 7 SIZE"),
-        Refusal::FULL => put(out, 0, b"no 8 FULL"),
-        Refusal::SPENT => put(out, 0, b"no 9 SPENT"),
-        Refusal::NOTHING => put(out, 0, b"no 10 NOTHING"),
-        Refusal::ROOM => put(out, 0, b"no 11 ROOM"),
-        Refusal::TAKEN => put(out, 0, b"no 12 TAKEN"),
-        Refusal::RANGE => put(out, 0, b"no 13 RANGE"),
-        Refusal::CLOCK => put(out, 0, b"no 14 CLOCK"),
-        Refusal::RECOVERY => put(out, 0, b"no 15 RECOVERY"),
-        Refusal::LENGTH => put(out, 0, b"no 16 LENGTH"),
-        Refusal::RESERVED => put(out, 0, b"no 17 RESERVED"),
-        Refusal::BOOK => put(out, 0, b"no 18 BOOK"),
-    }
+    let number = ground::number(r);
+    let at = put(out, 0, b"no");
+    let at = decimal(out, at, number as u64);
+    let at = put(out, at, b" ");
+    name(out, at, number)
 }

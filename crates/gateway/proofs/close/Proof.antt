@@ -1,6 +1,6 @@
 use Rattle.gateway.proofs.Slips.{slip-passes}
-use Rattle.gateway.proofs.Dids.{did-refused, did-done}
-use Rattle.gateway.specs.Did.{made, done, effect, slipOf}
+use Rattle.did.proofs.Dids.{did-refused, did-done}
+use Rattle.did.specs.Did.{made, done, effect, slipOf}
 use Rattle.order.proofs.Firsts.{line-passed}
 use Rattle.order.specs.Order.{closeTests, tests, lineFor}
 use Rattle.order.specs.Call as call

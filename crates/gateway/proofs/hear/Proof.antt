@@ -1,5 +1,5 @@
-use Rattle.gateway.proofs.Dids.{did-refused, moved-did}
-use Rattle.gateway.specs.Did.{made}
+use Rattle.did.proofs.Dids.{did-refused, moved-did}
+use Rattle.did.specs.Did.{made}
 use Rattle.order.proofs.Firsts.{line-passed}
 use Rattle.order.specs.Order.{fitBook, lineNumber, isOpen, actTests, modeTests, tests}
 use Rattle.order.specs.Call as call

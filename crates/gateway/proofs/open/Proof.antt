@@ -1,5 +1,5 @@
-use Rattle.gateway.proofs.Dids.{did-refused, did-done}
-use Rattle.gateway.specs.Did.{made, done, effect}
+use Rattle.did.proofs.Dids.{did-refused, did-done}
+use Rattle.did.specs.Did.{made, done, effect}
 use Rattle.order.proofs.Firsts.{line-passed}
 use Rattle.order.specs.Order.{openTests, tests, lineFor}
 use Rattle.order.specs.Call as call

@@ -1,4 +1,4 @@
-use Rattle.gateway.specs.Did.{slipOf}
+use Rattle.did.specs.Did.{slipOf}
 use borrow.Author.Tests.{lt-ltb, le-ltb}
 use Rattle.gateway.proofs.slip_of.Statement.{statement}
 use Rattle.gateway.proofs.slip_of.Tie as tie

@@ -2,8 +2,8 @@ use mathlib.Core.Path.{subst}
 use Rattle.mode.specs.declared.Ticking.{Ticking}
 use Rattle.gateway.specs.Says.{Tries}
 use Rattle.gateway.proofs.Answers.{tick-tries}
-use Rattle.gateway.proofs.Dids.{did-refused, moved-did}
-use Rattle.gateway.specs.Did.{made}
+use Rattle.did.proofs.Dids.{did-refused, moved-did}
+use Rattle.did.specs.Did.{made}
 use Rattle.order.proofs.Firsts.{line-passed}
 use Rattle.order.specs.Order.{fitBook, lineNumber, isOpen, actTests, modeTests, tests}
 use Rattle.order.specs.Call as call

@@ -1,6 +1,6 @@
-use Rattle.gateway.proofs.Passing.{handed-length}
-use Rattle.gateway.proofs.Dids.{did-refused, did-done}
-use Rattle.gateway.specs.Did.{made, done, effect}
+use Rattle.traffic.proofs.Passing.{handed-length}
+use Rattle.did.proofs.Dids.{did-refused, did-done}
+use Rattle.did.specs.Did.{made, done, effect}
 use Rattle.order.proofs.Firsts.{both-passed}
 use Rattle.order.specs.Order.{tests, lineFor}
 use Rattle.order.specs.Call as call
@@ -18,8 +18,8 @@ use Prim.Native.Nat.{ℕ}
 use mathlib.Core.List.{[], _∷_, _++_}
 use mathlib.Core.Path.{sym, ap, _∙_}
 use borrow.Author.Needs.{needs}
-use Rattle.gateway.proofs.hand_out.Statement.{statement}
-use Rattle.gateway.proofs.hand_out.Tie as tie
+use Rattle.traffic.proofs.hand_out.Statement.{statement}
+use Rattle.traffic.proofs.hand_out.Tie as tie
 
 may-hand-out-requires : tie.Need-may-hand-out-requires
 may-hand-out-requires c κs = search needs

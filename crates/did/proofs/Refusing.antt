@@ -10,7 +10,7 @@ use Rattle.ground.proofs.Settled.{settled-by}
 use Rattle.book.specs.declared.Book.{Book}
 use Rattle.order.specs.Call.{Call}
 use Rattle.order.specs.Order.{tests}
-use Rattle.gateway.specs.Did.{Did, did, done}
+use Rattle.did.specs.Did.{Did, did, done}
 
 -- nothing but a number was answered, and book, store and output are what they were
 pub record Unchanged (b : Book) (s o : List ℕ) (d : Did) : Type 0 where

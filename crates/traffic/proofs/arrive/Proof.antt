@@ -1,6 +1,6 @@
-use Rattle.gateway.proofs.Passing.{arrive-refuses, arrive-passes, arrive-line, arrive-addressed}
-use Rattle.gateway.proofs.Dids.{did-refused, did-done}
-use Rattle.gateway.specs.Did.{made, done, effect}
+use Rattle.traffic.proofs.Passing.{arrive-refuses, arrive-passes, arrive-line, arrive-addressed}
+use Rattle.did.proofs.Dids.{did-refused, did-done}
+use Rattle.did.specs.Did.{made, done, effect}
 use Rattle.order.specs.Order.{tests, lineFor}
 use Rattle.order.specs.Call as call
 use Rattle.book.proofs.Turns.{many}
@@ -15,8 +15,8 @@ use Prim.Native.Nat.{ℕ}
 use mathlib.Core.List.{[], _∷_}
 use mathlib.Core.Path.{_≡_, sym, ap, _∙_}
 use borrow.Author.Needs.{needs}
-use Rattle.gateway.proofs.arrive.Statement.{statement}
-use Rattle.gateway.proofs.arrive.Tie as tie
+use Rattle.traffic.proofs.arrive.Statement.{statement}
+use Rattle.traffic.proofs.arrive.Tie as tie
 
 may-arrive-requires : tie.Need-may-arrive-requires
 may-arrive-requires c κs = search needs

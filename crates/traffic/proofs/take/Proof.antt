@@ -1,5 +1,5 @@
-use Rattle.gateway.proofs.Dids.{did-refused, did-done}
-use Rattle.gateway.specs.Did.{made, done, effect}
+use Rattle.did.proofs.Dids.{did-refused, did-done}
+use Rattle.did.specs.Did.{made, done, effect}
 use Rattle.order.proofs.Firsts.{both-passed}
 use Rattle.order.specs.Order.{tests, lineFor}
 use Rattle.order.specs.Call as call
@@ -18,8 +18,8 @@ use Prim.Native.Nat.{ℕ, _%_}
 use mathlib.Core.List.{[], _∷_}
 use mathlib.Core.Path.{sym, ap, _∙_}
 use borrow.Author.Needs.{needs}
-use Rattle.gateway.proofs.take.Statement.{statement}
-use Rattle.gateway.proofs.take.Tie as tie
+use Rattle.traffic.proofs.take.Statement.{statement}
+use Rattle.traffic.proofs.take.Tie as tie
 
 may-take-requires : tie.Need-may-take-requires
 may-take-requires c κs = search needs

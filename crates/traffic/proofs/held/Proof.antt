@@ -1,5 +1,5 @@
-use Rattle.gateway.proofs.Dids.{did-refused, did-done, same-line}
-use Rattle.gateway.specs.Did.{made, done, effect}
+use Rattle.did.proofs.Dids.{did-refused, did-done, same-line}
+use Rattle.did.specs.Did.{made, done, effect}
 use Rattle.order.proofs.Firsts.{line-passed}
 use Rattle.order.specs.Order.{tests, lineFor}
 use Rattle.order.specs.Call as call
@@ -12,8 +12,8 @@ use Rattle.ground.specs.Answer.{accepted}
 use mathlib.Core.List.{[], _∷_}
 use mathlib.Core.Path.{sym, ap, _∙_}
 use borrow.Author.Needs.{needs}
-use Rattle.gateway.proofs.held.Statement.{statement}
-use Rattle.gateway.proofs.held.Tie as tie
+use Rattle.traffic.proofs.held.Statement.{statement}
+use Rattle.traffic.proofs.held.Tie as tie
 
 may-report-requires : tie.Need-may-report-requires
 may-report-requires c κs = search needs

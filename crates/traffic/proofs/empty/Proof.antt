@@ -1,5 +1,5 @@
-use Rattle.gateway.proofs.Dids.{did-refused, did-done}
-use Rattle.gateway.specs.Did.{made, done, effect}
+use Rattle.did.proofs.Dids.{did-refused, did-done}
+use Rattle.did.specs.Did.{made, done, effect}
 use Rattle.order.proofs.Firsts.{line-passed}
 use Rattle.order.specs.Order.{tests, lineFor}
 use Rattle.order.specs.Call as call
@@ -13,8 +13,8 @@ use lib.ListN.{length, drop}
 use mathlib.Core.List.{_++_}
 use mathlib.Core.Path.{sym, ap, _∙_}
 use borrow.Author.Needs.{needs}
-use Rattle.gateway.proofs.empty.Statement.{statement}
-use Rattle.gateway.proofs.empty.Tie as tie
+use Rattle.traffic.proofs.empty.Statement.{statement}
+use Rattle.traffic.proofs.empty.Tie as tie
 
 may-write-empty-requires : tie.Need-may-write-empty-requires
 may-write-empty-requires c κs = search needs

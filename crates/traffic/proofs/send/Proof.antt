@@ -1,6 +1,6 @@
-use Rattle.gateway.proofs.Passing.{send-refuses, send-passes, send-is, send-on, sendable}
-use Rattle.gateway.proofs.Dids.{did-refused, did-done}
-use Rattle.gateway.specs.Did.{made, done, effect}
+use Rattle.traffic.proofs.Passing.{send-refuses, send-passes, send-is, send-on, sendable}
+use Rattle.did.proofs.Dids.{did-refused, did-done}
+use Rattle.did.specs.Did.{made, done, effect}
 use Rattle.order.specs.Order.{tests, lineFor}
 use Rattle.order.specs.Call as call
 use Rattle.book.specs.Book.{withLine}
@@ -14,8 +14,8 @@ use lib.ListN.{length, drop}
 use mathlib.Core.List.{_++_}
 use mathlib.Core.Path.{sym, ap, _∙_}
 use borrow.Author.Needs.{needs}
-use Rattle.gateway.proofs.send.Statement.{statement}
-use Rattle.gateway.proofs.send.Tie as tie
+use Rattle.traffic.proofs.send.Statement.{statement}
+use Rattle.traffic.proofs.send.Tie as tie
 
 may-send-requires : tie.Need-may-send-requires
 may-send-requires c κs = search needs

@@ -26,7 +26,7 @@ use Rattle.book.specs.declared.Book.{Book}
 use Rattle.order.specs.Call.{Call}
 use Rattle.order.specs.Call as call
 use Rattle.order.specs.Order.{tests, fitBook, lineNumber, isOpen, actTests, modeTests, lineFor}
-use Rattle.gateway.specs.Did.{Did, made, did, done, effect}
+use Rattle.did.specs.Did.{Did, made, did, done, effect}
 
 module _ (c : Call) (b : Book) (store out : List ℕ) where
   abbrev its : Verdict
