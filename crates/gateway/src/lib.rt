@@ -139,7 +139,7 @@ pub fn hear(book: Book, line: u8, mode: u8, time: u64) -> Hears
         },
         Verdict::Pass => {
             let l = book.line(line);
-            let heard = l.modes.hear(mode, time);
+            let heard = indication::hear(l.modes, mode, time);
             let answer = heard.answer;
             let channels = heard.channels;
             let stepped = l.stepped(heard.modes, channels);
@@ -161,7 +161,7 @@ pub fn ask(book: Book, line: u8, mode: u8, time: u64) -> Asks
         },
         Verdict::Pass => {
             let l = book.line(line);
-            let asked = l.modes.ask(mode, time);
+            let asked = request::ask(l.modes, mode, time);
             let answer = asked.answer;
             let channels = asked.channels;
             let stepped = l.stepped(asked.modes, channels);
@@ -184,7 +184,7 @@ pub fn tick(book: Book, line: u8, time: u64) -> Ticks
         },
         Verdict::Pass => {
             let l = book.line(line);
-            let ticked = l.modes.tick(time);
+            let ticked = recovery::tick(l.modes, time);
             let answer = ticked.answer;
             let channels = ticked.channels;
             let stepped = l.stepped(ticked.modes, channels);

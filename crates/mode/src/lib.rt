@@ -1,14 +1,11 @@
-// The media modes of one line, by value: what an indication, a request and a tick make of them, and recovery.
-// It follows document 01, 'Media modes' (V.150.1, C.5.3 and C.5.4.1). Each call gives its answer, the next modes, and what is to
-// become of the line's channels. What a channel, an octet, a line or a book is, and NOLINE, are left to others.
+// The media modes of one line, by value: the record, the steps that it is changed by, and what a mode call gives.
+// It follows document 01, 'Media modes' (V.150.1, C.5.3 and C.5.4.1). What an indication, a request and a tick make of the record
+// is defined here, with the laws of it; the calls stand in `indication`, `request` and `recovery`. Each gives its answer, the next
+// modes, and what is to become of the line's channels. What a channel, an octet, a line or a book is, and NOLINE, are left to others.
 ghost use mathlib.Core.Path.{_≡_};
 ghost use Rattle.mode.specs.Moved.{openedModes, closedModes, enters, leaves, channelsFor, timed, moved, trying, stayed, ended};
 ghost use Rattle.mode.specs.Fit.{modesFit};
 use ground::Refusal;
-
-mod indication; // indication.rt: what an indication gives, and the call `hear`
-mod recovery; // recovery.rt: what a tick finds, and the call `tick`
-mod request; // request.rt: what may be requested, and the call `ask`
 
 // What a line remembers of its media modes.
 pub struct Modes {
@@ -101,7 +98,7 @@ fn leaves_m(before: u8, after: u8) -> bool
 }
 
 // What becomes of the channels, by the local mode before and after.
-fn channels_for(before: u8, after: u8) -> Channels
+pub fn channels_for(before: u8, after: u8) -> Channels
     ensures { λ r. ⌜ r ≡ channelsFor before after ⌝ }
 {
     if enters_m(before, after) {
@@ -187,7 +184,7 @@ impl Modes {
     }
 
     // The record once the modes are these at that time.
-    fn moved(self, local: u8, remote: u8, time: u64) -> Modes
+    pub fn moved(self, local: u8, remote: u8, time: u64) -> Modes
         ensures { λ r. ⌜ r ≡ moved self local remote time ⌝ }
     {
         let left = self.left | leaves_m(self.local, local);
@@ -203,7 +200,7 @@ impl Modes {
     }
 
     // The record at that try, the last try made at that time.
-    fn trying(self, tries: u8, time: u64) -> Modes
+    pub fn trying(self, tries: u8, time: u64) -> Modes
         ensures { λ r. ⌜ r ≡ trying self tries time ⌝ }
     {
         Modes {
@@ -214,14 +211,14 @@ impl Modes {
     }
 
     // The record at a later time, with nothing else changed.
-    fn stayed(self, time: u64) -> Modes
+    pub fn stayed(self, time: u64) -> Modes
         ensures { λ r. ⌜ r ≡ stayed self time ⌝ }
     {
         Modes { last: time, ..self }
     }
 
     // The line has ended by recovery.
-    fn ended(self) -> bool
+    pub fn ended(self) -> bool
         ensures { λ r. ⌜ r ≡ ended self ⌝ }
     {
         Modes::TRIES < self.tries
