@@ -54,7 +54,8 @@ fn ticked_modes(modes: Modes, time: u64) -> Modes
     }
     let tries = modes.tries;
     if tries == 0 {
-        return modes.moved(Modes::AUDIO, Modes::UNKNOWN, time)
+        return modes
+            .moved(Modes::AUDIO, Modes::UNKNOWN, time)
             .trying(1, time);
     }
     if tries == Modes::TRIES {
