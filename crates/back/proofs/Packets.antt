@@ -21,12 +21,12 @@ use Rattle.field.proofs.Packs.{Wide, pack-cut, reads-back, word-there}
 use Rattle.field.specs.Word.{channelOf}
 use Rattle.packet.specs.Acks.{ackList, named, blank, acksServed, acksBlank}
 use Rattle.packet.specs.Read.{headTests, listTests, headRead, acksRead, headAt, acksAt, ackAt, numberAt, baseAt, payloadOf, payloadFits, sizeFits, headerAt, countAt, channelAt}
-use Rattle.packet.specs.Write.{fixedFields, ackFields, layout, packetOctets, fieldsFit, numbersPlaced, writeTests}
+use Rattle.pack.specs.Write.{fixedFields, ackFields, layout, packetOctets, fieldsFit, numbersPlaced, writeTests}
 use Rattle.packet.specs.declared.Head.{Head}
 use Rattle.packet.specs.declared.Acks.{Acks}
 use Rattle.packet.specs.declared.HeadRead.the-variants as head
 use Rattle.packet.specs.declared.AcksRead.the-variants as acks
-use Rattle.packet.proofs.Writes.{wide-take, list-words, list-room, list-wide, list-length, header-length, fits-room, fits-count}
+use Rattle.pack.proofs.Writes.{wide-take, list-words, list-room, list-wide, list-length, header-length, fits-room, fits-count}
 
 -- acknowledgements that are served are words of 16 bits
 served-wide : (n : ℕ) (a b c : ℕ) → allHold (named n 0 a ∷ named n 1 b ∷ named n 2 c ∷ []) ≡ true → Wide (take n (a ∷ b ∷ c ∷ []))

@@ -12,7 +12,7 @@ use Rattle.field.specs.Bits.{bitsAt}
 use Rattle.packet.specs.Acks.{acksServed}
 use Rattle.packet.specs.Read.{headAt, numberAt, baseAt, acksAt, ackAt, payloadOf}
 use Rattle.packet.specs.Read as reading
-use Rattle.packet.specs.Write.{packetOctets}
+use Rattle.pack.specs.Write.{packetOctets}
 use Rattle.places.specs.Places.{setBelow, lowest, rankOf}
 use Rattle.sending.specs.Sending.{tookOne, heardBase, ackedBy, heldOf, sendingFits}
 use Rattle.receiving.specs.Receiving.{arrivalOf, storedAt, receivingFits}

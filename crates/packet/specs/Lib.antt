@@ -1,3 +1,2 @@
 pub mod Acks
 pub mod Read
-pub mod Write

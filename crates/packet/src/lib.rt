@@ -1,18 +1,13 @@
-// A relay packet: document 01, section 'Packets', after V.150.1 Annex B. What its octets say, and a packet written.
+// A relay packet: document 01, section 'Packets', after V.150.1 Annex B. What its octets say; `pack` writes one.
 // Lines, windows and modes are not known here: NOLINE, TYPE and MODE stand between reading the head and reading the list.
 ghost use mathlib.Core.Path.{_≡_};
-ghost use lib.ListN.{length};
-ghost use Prim.Native.Nat.{_+_, _*_, _<_};
-ghost use lib.Seq.{sets};
+ghost use Prim.Native.Nat.{_<_};
 ghost use Rattle.ground.specs.Refusal.{verdict};
-ghost use Rattle.ground.specs.Answer.{Gives, Writes};
-ghost use Rattle.field.specs.Layout.{packed, Room};
-ghost use Rattle.packet.specs.Acks.{served, named, blank, acksServed, acksBlank};
+ghost use Rattle.ground.specs.Answer.{Gives};
+ghost use Rattle.packet.specs.Acks.{served, named, acksServed};
 ghost use Rattle.packet.specs.Read.{headTests, listTests, headAnswer, acksAnswer, headAt, acksAt, headerAt, channelAt, numberAt, baseAt, ackAt, sizeFits, payloadFits, formPlain};
-ghost use Rattle.packet.specs.Write.{layout, fixedFields, numbersPlaced, fieldsFit, writeTests, packetOctets};
 use ground::Refusal;
 use ground::Verdict;
-use ground::Written;
 
 // What a packet says before its list of acknowledgements. What is not looked at is 0.
 pub struct Head {
@@ -170,26 +165,12 @@ fn ack_named(n: u8, k: u8, w: u16) -> bool
     if k < n { ack_served(w) } else { true }
 }
 
-fn ack_blank(n: u8, k: u8, w: u16) -> bool
-    ensures { λ r. ⌜ r ≡ blank n k w ⌝ }
-{
-    if k < n { true } else { w == 0 }
-}
-
 // Does each acknowledgement that is there name a channel that is served?
-fn acks_served(a: Acks) -> bool
+pub fn acks_served(a: Acks) -> bool
     ensures { λ r. ⌜ r ≡ acksServed a ⌝ }
 {
     let n = a.count;
     ack_named(n, 0, a.first) & ack_named(n, 1, a.second) & ack_named(n, 2, a.third)
-}
-
-// Is each that is not there 0?
-fn acks_blank(a: Acks) -> bool
-    ensures { λ r. ⌜ r ≡ acksBlank a ⌝ }
-{
-    let n = a.count;
-    ack_blank(n, 0, a.first) & ack_blank(n, 1, a.second) & ack_blank(n, 2, a.third)
 }
 
 fn list_verdict(s: &[u8]) -> Verdict
@@ -217,7 +198,7 @@ pub fn read_acks(s: &[u8]) -> AcksRead
 }
 
 // Are n octets of payload no more than that, and none on channel 0?
-fn size_fits(channel: u8, n: usize, largest: usize) -> bool
+pub fn size_fits(channel: u8, n: usize, largest: usize) -> bool
     ensures { λ r. ⌜ r ≡ sizeFits channel n largest ⌝ }
 {
     if channel == 0 {
@@ -236,84 +217,4 @@ pub fn payload_fits(s: &[u8], largest: usize) -> bool
         return size_fits(channel, 0, largest);
     }
     size_fits(channel, s.len() - at, largest)
-}
-
-// Are numbers that have no place 0? n is the payload's length.
-fn numbers_placed(h: Head, n: usize) -> bool
-    ensures { λ r. ⌜ r ≡ numbersPlaced h n ⌝ }
-{
-    if h.channel == 0 {
-        return (h.number == 0) & (h.base == 0);
-    }
-    if n == 0 {
-        return h.number == 0;
-    }
-    true
-}
-
-fn fields_fit(h: Head, a: Acks, n: usize) -> bool
-    ensures { λ r. ⌜ r ≡ fieldsFit h a n ⌝ }
-{
-    let blank = acks_blank(a);
-    let placed = numbers_placed(h, n);
-    (h.identifier < 128)
-        & (h.kind < 128)
-        & (h.number < 16384)
-        & (h.base < 16384)
-        & (a.count <= 3)
-        & blank
-        & placed
-}
-
-fn write_verdict(h: Head, a: Acks, payload: &[u8], largest: usize, room: usize) -> Verdict
-    ensures { λ r. ⌜ r ≡ verdict (writeTests h a (now (payload .entry)) largest room) ⌝ }
-{
-    let n = payload.len();
-    if fields_fit(h, a, n) {} else {
-        return Verdict::Refuse(Refusal::RANGE);
-    }
-    let served = acks_served(a);
-    if (h.channel < 3) & served {} else {
-        return Verdict::Refuse(Refusal::CHANNEL);
-    }
-    if size_fits(h.channel, n, largest) {} else {
-        return Verdict::Refuse(Refusal::SIZE);
-    }
-    if 6 + 2 * (a.count as usize) + n <= room {
-        Verdict::Pass
-    } else {
-        Verdict::Refuse(Refusal::ROOM)
-    }
-}
-
-// Stores the header and answers how many octets that is.
-fn put_header(out: &mut [u8], h: Head, a: Acks) -> usize
-    requires { ⌜ Room (fixedFields h (a .count)) ⌝ }
-    ensures { λ r. ⌜ (r ≡ 6 + 2 * a .count) × (now (out .exit) ≡ sets (now (out .entry)) 0 (packed (layout h a))) ⌝ }
-{
-    let words = [
-        (h.identifier as u16) << 8 | h.kind as u16,
-        (h.channel as u16) << 14 | h.number,
-        (a.count as u16) << 14 | h.base,
-        a.first,
-        a.second,
-        a.third,
-    ];
-    let n = 3 + a.count as usize;
-    field::put_words(out, &words[..n]);
-    2 * n
-}
-
-// Writes a packet: RANGE, CHANNEL, SIZE, ROOM. `largest` is the line's largest message.
-pub fn write_packet(out: &mut [u8], h: Head, a: Acks, payload: &[u8], largest: usize) -> Written
-    ensures { λ r. ⌜ Writes (writeTests h a (now (payload .entry)) largest (length (now (out .entry)))) (packetOctets h a (now (payload .entry))) (now (out .entry)) (now (out .exit)) r ⌝ }
-{
-    match write_verdict(h, a, payload, largest, out.len()) {
-        Verdict::Refuse(r) => Written::Refused(r),
-        Verdict::Pass => {
-            let n = put_header(out, h, a);
-            field::put_octets(out, n, payload);
-            Written::Wrote(n + payload.len())
-        }
-    }
 }

@@ -10,7 +10,7 @@ use Rattle.ground.specs.declared.Verdict.{Verdict}
 use Rattle.ground.specs.declared.Verdict.the-variants.{Pass, Refuse}
 use Rattle.packet.specs.Acks.{ackList}
 use Rattle.packet.specs.Read.{headAt, headTests, headRead}
-use Rattle.packet.specs.Write.{packetOctets, writeTests}
+use Rattle.pack.specs.Write.{packetOctets, writeTests}
 use Rattle.packet.specs.declared.Head.{Head}
 use Rattle.packet.specs.declared.Acks.{Acks}
 use Rattle.packet.specs.declared.HeadRead.the-variants as head

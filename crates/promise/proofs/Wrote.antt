@@ -20,7 +20,7 @@ use Rattle.places.specs.declared.Place.the-variants.{At, Missing}
 use Rattle.places.proofs.Ranks.{rank-holds}
 use Rattle.packet.specs.Acks.{ackList}
 use Rattle.packet.specs.Read.{headAt}
-use Rattle.packet.specs.Write.{packetOctets, writeTests}
+use Rattle.pack.specs.Write.{packetOctets, writeTests}
 use Rattle.packet.specs.declared.Head.{Head}
 use Rattle.back.proofs.Packets.{size-round}
 use Rattle.channel.specs.Channel.{modulus, windowOf}

@@ -11,7 +11,7 @@ use Rattle.ground.specs.Pick.{bit}
 use Rattle.ground.specs.Refusal.{verdict}
 use Rattle.ground.specs.declared.Verdict.the-variants.{Pass}
 use Rattle.packet.specs.Read.{headAt, acksAt, payloadOf, headTests, listTests}
-use Rattle.packet.specs.Write.{packetOctets}
+use Rattle.pack.specs.Write.{packetOctets}
 use Rattle.packet.specs.declared.Head.{Head}
 use Rattle.packet.specs.declared.Acks.{Acks}
 use Rattle.connect.specs.Read.{connectAt}

@@ -13,7 +13,7 @@ use Rattle.ground.specs.declared.Verdict.the-variants.{Pass, Refuse}
 use Rattle.field.specs.Bits.{bitsAt}
 use Rattle.packet.specs.Acks.{acksServed}
 use Rattle.packet.specs.Read.{headRead, acksRead, headAt, numberAt, baseAt, acksAt, ackAt, headAnswer, acksAnswer, payloadOf}
-use Rattle.packet.specs.Write.{packetOctets}
+use Rattle.pack.specs.Write.{packetOctets}
 use Rattle.connect.specs.Spans.{sizeOf, sizesFit}
 use Rattle.connect.specs.Read.{connectRead, connectAt, wayAt}
 use Rattle.connect.specs.Read as connect

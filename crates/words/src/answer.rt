@@ -1,7 +1,4 @@
 // The words of an answer, put one behind the other into an output of the desk. Where it is full, no more is put.
-ghost use mathlib.Core.Path.{_≡_};
-ghost use Prim.Native.Nat.{_≤_};
-ghost use Rattle.words.specs.Words.{upperDigit};
 use crate::next;
 use ground::Refusal;
 
@@ -33,22 +30,10 @@ pub fn decimal(out: &mut [u8], at: usize, n: u64) -> usize {
     put(out, next, &text[..count])
 }
 
-// The upper-case digit of a value below 16.
-fn digit(value: u8) -> u8
-    requires { ⌜ value ≤ 15 ⌝ }
-    ensures { λ r. ⌜ r ≡ upperDigit value ⌝ }
-{
-    if value < 10 {
-        b'0' + value
-    } else {
-        b'A' - 10 + value
-    }
-}
-
 // Puts one octet in two hexadecimal digits.
 fn pair(out: &mut [u8], at: usize, value: u8) -> usize {
-    let next = octet(out, at, digit(value >> 4));
-    octet(out, next, digit(value & 15))
+    let next = octet(out, at, digits::upper_digit(value >> 4));
+    octet(out, next, digits::upper_digit(value & 15))
 }
 
 // Puts a space and octets in hexadecimal, `-` for none.

@@ -1,9 +1,8 @@
 // The words of one line of a script: where each lies, and the numbers, modes and octets that they say. What a line calls, and
 // how many words it has, is left to others.
-ghost use mathlib.Core.Path.{_≡_};
-ghost use Prim.Native.Nat.{_≤_, _<_};
+ghost use Prim.Native.Nat.{_≤_};
 ghost use lib.ListN.{length};
-ghost use Rattle.words.specs.Words.{Within, hexDigit, longerBy, numberOf};
+ghost use Rattle.words.specs.Words.{Within};
 
 mod answer; // answer.rt: the words of an answer
 mod asked; // asked.rt: the words that a call asks for, all at once
@@ -14,17 +13,13 @@ pub use answer::put;
 pub use answer::refusal;
 pub use asked::Asked;
 pub use asked::read;
+pub use digits::Number;
+pub use digits::read_number;
 
 // A word of a line: from its first octet to behind its last. Where no word is left, both are the line's end.
 pub struct Word {
     pub from: usize,
     pub to: usize,
-}
-
-// What a word says as a number, or that it says none.
-pub enum Number {
-    Says(u64),
-    Nothing,
 }
 
 // How many octets a word says, or that it says none.
@@ -96,50 +91,6 @@ pub fn same(word: &[u8], name: &[u8]) -> bool {
     true
 }
 
-// The number with one digit more, or that it is too large for 64 bits or that the octet is no digit.
-fn longer(n: u64, octet: u8) -> Number
-    ensures { λ r. ⌜ r ≡ longerBy n octet ⌝ }
-{
-    if octet < b'0' {
-        return Number::Nothing;
-    }
-    if b'9' < octet {
-        return Number::Nothing;
-    }
-    let digit = (octet - b'0') as u64;
-    if 1844674407370955161 < n {
-        return Number::Nothing;
-    }
-    if u64::MAX - n * 10 < digit {
-        return Number::Nothing;
-    }
-    Number::Says(n * 10 + digit)
-}
-
-// A number: decimal digits, with no sign. Leading zeros are accepted.
-pub fn read_number(word: &[u8]) -> Number
-    ensures { λ r. ⌜ r ≡ numberOf (now (word .entry)) ⌝ }
-{
-    if word.len() == 0 {
-        return Number::Nothing;
-    }
-    let mut n = 0;
-    let mut i = 0;
-    while i < word.len() {
-        let more = longer(n, word[i]);
-        match more {
-            Number::Says(m) => {
-                n = m;
-            }
-            Number::Nothing => {
-                return Number::Nothing;
-            }
-        }
-        i += 1;
-    }
-    Number::Says(n)
-}
-
 // A mode, by its letter, as Table C.1 numbers it; 0 is i.
 pub fn read_mode(word: &[u8]) -> Number {
     if word.len() != 1 {
@@ -154,18 +105,6 @@ pub fn read_mode(word: &[u8]) -> Number {
         b'f' => Number::Says(4),
         b't' => Number::Says(5),
         _ => Number::Nothing,
-    }
-}
-
-// The value of a hexadecimal digit of either case; 16 where it is none.
-fn digit(octet: u8) -> u8
-    ensures { λ r. ⌜ r ≡ hexDigit octet ⌝ }
-{
-    match octet {
-        b'0'..=b'9' => octet - b'0',
-        b'a'..=b'f' => octet - b'a' + 10,
-        b'A'..=b'F' => octet - b'A' + 10,
-        _ => 16,
     }
 }
 
@@ -193,8 +132,8 @@ pub fn read_octets(word: &[u8], out: &mut [u8]) -> Octets
     }
     let mut i = 0;
     while i < count {
-        let high = digit(word[2 * i]);
-        let low = digit(word[2 * i + 1]);
+        let high = digits::hex_digit(word[2 * i]);
+        let low = digits::hex_digit(word[2 * i + 1]);
         if (15 < high) | (15 < low) {
             return Octets::Nothing;
         }

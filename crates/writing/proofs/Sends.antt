@@ -30,8 +30,8 @@ use Rattle.sending.specs.declared.Sending.{Sending}
 use Rattle.channel.proofs.Distances.{place-lt}
 use Rattle.flow.proofs.Keeps.{sending-sized}
 use Rattle.packet.specs.Read as packet
-use Rattle.packet.specs.Write.{numbersPlaced, writeTests}
-use Rattle.packet.proofs.Writes.{packet-length}
+use Rattle.pack.specs.Write.{numbersPlaced, writeTests}
+use Rattle.pack.proofs.Writes.{packet-length}
 use Rattle.owed.proofs.Steps.{owed-ok}
 use Rattle.line.specs.Fit.{largest, lineFits}
 use Rattle.line.specs.Line.{sendingOf}

@@ -14,7 +14,7 @@ use Rattle.channel.specs.Sizes.{sizeFits}
 use Rattle.sending.specs.declared.Held.{Held}
 use Rattle.sending.specs.declared.Ranked.{Ranked}
 use Rattle.sending.specs.declared.Ranked.the-variants.{Is, Nothing}
-use Rattle.packet.specs.Write.{packetOctets}
+use Rattle.pack.specs.Write.{packetOctets}
 use Rattle.line.specs.Fit.{largest}
 use Rattle.line.specs.Line.{sendingOf}
 use Rattle.line.specs.declared.Line.{Line}

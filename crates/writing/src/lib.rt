@@ -118,7 +118,7 @@ pub fn write_empty(l: Line, channel: u8, out: &mut [u8]) -> Sent
     let none = [0u8; 1];
     let head = head_for(l, channel, 0);
     let acks = acks_for(l);
-    let answer = packet::write_packet(out, head, acks, &none[..0], 132);
+    let answer = pack::write_packet(out, head, acks, &none[..0], 132);
     let line = wrote_line(l);
     Sent { line, answer }
 }
@@ -158,7 +158,7 @@ pub fn send(l: Line, i: u8, store: &[u8], channel: u8, h: Held, out: &mut [u8]) 
     let end = at + h.size as usize;
     let head = head_for(l, channel, (h.number & 0x3fff) as u16);
     let acks = acks_for(l);
-    let answer = packet::write_packet(out, head, acks, &store[at..end], 132);
+    let answer = pack::write_packet(out, head, acks, &store[at..end], 132);
     let line = wrote_line(l);
     Sent { line, answer }
 }

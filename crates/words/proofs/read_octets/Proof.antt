@@ -27,26 +27,26 @@ returns-3 c = omega arith
 loop-holds : tie.Need-loop-holds Inv-loop μ-loop
 loop-holds c = omega arith
 
-mul-digit : tie.Need-mul-digit Inv-loop μ-loop
-mul-digit c = omega arith
+mul-hex-digit : tie.Need-mul-hex-digit Inv-loop μ-loop
+mul-hex-digit c = omega arith
 
-shared-slice-read-digit : tie.Need-shared-slice-read-digit Inv-loop μ-loop
-shared-slice-read-digit c = omega arith
+shared-slice-read-hex-digit : tie.Need-shared-slice-read-hex-digit Inv-loop μ-loop
+shared-slice-read-hex-digit c = omega arith
 
-digit-requires : tie.Need-digit-requires Inv-loop μ-loop
-digit-requires c κs = search needs
+hex-digit-requires : tie.Need-hex-digit-requires Inv-loop μ-loop
+hex-digit-requires c κs = search needs
 
-mul-digit-2 : tie.Need-mul-digit-2 Inv-loop μ-loop
-mul-digit-2 c = omega arith
+mul-hex-digit-2 : tie.Need-mul-hex-digit-2 Inv-loop μ-loop
+mul-hex-digit-2 c = omega arith
 
-add-digit : tie.Need-add-digit Inv-loop μ-loop
-add-digit c = omega arith
+add-hex-digit : tie.Need-add-hex-digit Inv-loop μ-loop
+add-hex-digit c = omega arith
 
-shared-slice-read-digit-2 : tie.Need-shared-slice-read-digit-2 Inv-loop μ-loop
-shared-slice-read-digit-2 c = omega arith
+shared-slice-read-hex-digit-2 : tie.Need-shared-slice-read-hex-digit-2 Inv-loop μ-loop
+shared-slice-read-hex-digit-2 c = omega arith
 
-digit-requires-2 : tie.Need-digit-requires-2 Inv-loop μ-loop
-digit-requires-2 c κs = search needs
+hex-digit-requires-2 : tie.Need-hex-digit-requires-2 Inv-loop μ-loop
+hex-digit-requires-2 c κs = search needs
 
 same-length : tie.Need-same-length Inv-loop μ-loop
 same-length c = omega arith
@@ -85,13 +85,13 @@ read-octets-spec =
     returns-2
     returns-3
     loop-holds
-    mul-digit
-    shared-slice-read-digit
-    digit-requires
-    mul-digit-2
-    add-digit
-    shared-slice-read-digit-2
-    digit-requires-2
+    mul-hex-digit
+    shared-slice-read-hex-digit
+    hex-digit-requires
+    mul-hex-digit-2
+    add-hex-digit
+    shared-slice-read-hex-digit-2
+    hex-digit-requires-2
     same-length
     returns-4
     slice-write-out
