@@ -1,5 +1,5 @@
--- The idle builds that give a constant packet, or take the line from the caller, do not meet demand 2, and a count made up at will does not meet
--- the report's rule: a line or two, computed, show it.
+-- The idle build that gives a constant packet does not meet demand 2, and a count made up at will does not meet the report's rule: a line or two,
+-- computed, show it.
 -- Assumes nothing.
 use Prim.Native.Nat.{ℕ, _≤_}
 use mathlib.Core.Path.{_≡_, refl, sym, ap, _∙_}
@@ -11,10 +11,7 @@ use lib.ListN.{length, drop, replicate, getD}
 use lib.Seq.{take-append-seam}
 use Rattle.ground.specs.Answer.{Answer}
 use Rattle.ground.specs.Every.{every}
-use Rattle.field.specs.Bits.{bitsAt}
-use Rattle.packet.specs.Acks.{acksServed}
-use Rattle.packet.specs.Read.{headAt, numberAt, baseAt, acksAt, ackAt, payloadOf}
-use Rattle.packet.specs.Read as packet
+use Rattle.packet.specs.Read.{headAt}
 use Rattle.packet.specs.declared.Head.{Head}
 use Rattle.sending.specs.Sending.{tookOne, sendingFits}
 use Rattle.receiving.specs.Receiving.{receivingFits}
@@ -31,12 +28,11 @@ use Rattle.line.specs.declared.Settings.{Settings}
 use Rattle.store.specs.Store.{regionOf}
 use Rattle.relay.specs.Asked.{relayTests}
 use Rattle.relay.specs.Take.{takeCallTests}
-use Rattle.arriving.specs.Arrive.{arriveTests}
 use Rattle.resting.specs.Rest.{allSpan}
-use Rattle.book.specs.Book.{freshBook, openIn, linesFit, bookFits, whoseFrom}
+use Rattle.book.specs.Book.{freshBook, openIn, linesFit, bookFits}
 use Rattle.order.specs.Call.{Call}
 use Rattle.order.specs.Call as call
-use Rattle.order.specs.Order.{openTests, modeTests, addressTests, arrivalTests, lineFor, tests}
+use Rattle.order.specs.Order.{openTests, modeTests, lineFor, tests}
 use Rattle.did.specs.Did.{did, done, effect}
 use Rattle.laws.specs.Reached.{Turn, reach}
 use Rattle.laws.proofs.Identifiers.{reached-passes}
@@ -44,7 +40,7 @@ use Rattle.promise.specs.Run.{Gateway, does, given, lineAt}
 use Rattle.promise.specs.Build.{Build}
 use Rattle.promise.specs.Demand2.{Ready, Demand2}
 use Rattle.promise.specs.Report.{heldFrom, Reports}
-use Rattle.idle.specs.Idle.{constantPacket, callersLine, madeUp}
+use Rattle.idle.specs.Idle.{constantPacket, madeUp}
 
 -- a store of 42,240 octets, and a line with an identifier
 abbrev pub zeros : List ℕ
@@ -67,7 +63,7 @@ turn c = record { call = c; out = [] }
 abbrev turns : ℕ → List Turn
 turns identifier = turn (call.opening 0 (named identifier) 0) ∷ turn (call.mode 0 (ask modem 0)) ∷ []
 
-abbrev there : ℕ → Gateway
+abbrev pub there : ℕ → Gateway
 there identifier = called (turns identifier)
 
 -- the packets of two lines do not say the same: no build gives one packet s for all
@@ -81,13 +77,6 @@ constant-packets-fail b s same d =
 
 pub constant-packet-fails : (s : List ℕ) → Demand2 (constantPacket s) → ⊥
 constant-packet-fails s = constant-packets-fail (constantPacket s) s (λ g out. take-append-seam s (drop (length s) out))
-
--- a packet for identifier 6 is accepted at the line of identifier 5
-pub callers-line-fails : Demand2 callersLine → ⊥
-unfolding reach did done effect tests lineFor openTests modeTests bookFits linesFit allSpan openIn lineFits member noTwice allSpans owedFits modesFit sendingFits receivingFits sizes.sizesFit every asking moved timed channelsFor steppedTo arrivalTests addressTests arriveTests whoseFrom headAt numberAt baseAt acksAt ackAt acksServed payloadOf packet.sizeFits bitsAt
-callers-line-fails d =
-    let n : _≡_ {A = ℕ} 5 6 = d .inside (there 5) (6 ∷ 98 ∷ 0 ∷ 0 ∷ 0 ∷ 0 ∷ []) [] refl .named in
-    omega (arith, n)
 
 -- of no message and of one the report says not the same
 pub made-up-fails : (n : ℕ) → Reports (madeUp n) → ⊥

@@ -42,8 +42,9 @@ use Rattle.promise.specs.Past.{Packet, Past, nothingYet, justOpened, tookPast, 
 use Rattle.promise.specs.Past as marks
 use Rattle.promise.specs.Run.{Gateway, does, after, sentPacket, emptyPacket, none, also, took, sent, wrote, heard, calls, Goes, here, there}
 use Rattle.promise.specs.Demand3.{Demand3}
-use Rattle.idle.specs.Idle.{arriving, frees, freesOnAck}
+use Rattle.idle.specs.Idle.{arriving}
+use Rattle.quick.specs.Quick.{frees, freesOnAck}
 use Rattle.idle.proofs.IdleRuns.{fresh, inside, begun, run}
 
 abbrev f : Does
 f = arriving frees

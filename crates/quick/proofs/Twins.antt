@@ -19,7 +19,8 @@ use Rattle.promise.specs.Promise.{sendsBy, receivesBy, InRelay}
 use Rattle.promise.specs.Ends.{sendsOf, receivesOf}
 use Rattle.promise.specs.Demand2.{Ready}
 use Rattle.promise.specs.Demand3.{Serves, Served}
-use Rattle.idle.specs.Idle.{arriving, older}
+use Rattle.idle.specs.Idle.{arriving}
+use Rattle.quick.specs.Quick.{older}
 use Rattle.promise.proofs.Phases.{is-open}
 use Rattle.promise.proofs.Lift.{run-kept}
 use Rattle.promise.proofs.Demand3.{turned-run, promised, ours-demand3}

@@ -34,13 +34,14 @@ use Rattle.promise.specs.Past.{Mark, Packet, Past, there, renewed, enter, enter
 use Rattle.promise.specs.Run.{Gateway, does, after, given, lineAt, Each, none, also, Recent, Honest, rankedMark, baseMark, emptyPacket, handed, wrote, heard}
 use Rattle.promise.specs.Promise.{receivesBy, AllCame}
 use Rattle.promise.specs.Demand3.{Serves}
-use Rattle.idle.specs.Idle.{expected, isOlder, ignored}
+use Rattle.idle.specs.Idle.{ignored}
+use Rattle.quick.specs.Quick.{expected, isOlder}
 use Rattle.promise.proofs.Own.{call-passes, line-left}
 use Rattle.promise.proofs.Lift.{run-kept}
 use Rattle.promise.proofs.Promised.{all-have}
 use Rattle.promise.proofs.Demand2.{ours-demand2}
-use Rattle.idle.proofs.Twins.{f, Twin, turned, served, alike, ready, S-is, h-is, R-is, next-is, taken-is}
-use Rattle.idle.proofs.Rounds.{room, At, g₂, p₂, t₂, taken₁, base₂, ranked, g₁, packet, number, honest, said-number, arrival, here, next-there}
+use Rattle.quick.proofs.Twins.{f, Twin, turned, served, alike, ready, S-is, h-is, R-is, next-is, taken-is}
+use Rattle.quick.proofs.Rounds.{room, At, g₂, p₂, t₂, taken₁, base₂, ranked, g₁, packet, number, honest, said-number, arrival, here, next-there}
 
 -- acknowledgements leave h as it is
 acked-base : (s : Sending) (n : ℕ) → ackedBy s n .base ≡ s .base

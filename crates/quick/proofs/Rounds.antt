@@ -26,12 +26,12 @@ use Rattle.promise.specs.Past.{Mark, Packet, Past, tookPast, wrotePast}
 use Rattle.promise.specs.Run.{Gateway, does, after, lineAt, Each, none, also, Recent, Honest, rankedMark, baseMark, sentPacket, took, sent}
 use Rattle.promise.specs.Promise.{sendsBy, reportBy}
 use Rattle.promise.specs.Demand3.{Serves}
-use Rattle.idle.specs.Idle.{expected}
+use Rattle.quick.specs.Quick.{expected}
 use Rattle.promise.proofs.Own.{call-passes, line-left}
 use Rattle.promise.proofs.Lift.{run-kept}
 use Rattle.promise.proofs.Demand2.{ours-demand2}
 use Rattle.promise.proofs.Demand3.{promised, report-counts}
-use Rattle.idle.proofs.Twins.{Twin, turned, served, alike, ready, S-is, h-is, R-is, next-is}
+use Rattle.quick.proofs.Twins.{Twin, turned, served, alike, ready, S-is, h-is, R-is, next-is}
 
 abbrev pub room : List ℕ
 room = replicate 144 0

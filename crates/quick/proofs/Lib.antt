@@ -1,0 +1,6 @@
+pub mod Callers
+pub mod Room
+pub mod Twins
+pub mod Rounds
+pub mod Answered
+pub mod Size
