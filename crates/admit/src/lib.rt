@@ -1,5 +1,6 @@
-// The order of refusals of the relay calls and of an arriving packet: document 01, the paragraph 'Order'. Each function here is the
-// verdict of one call on a book; what an accepted call does is left to others. Of the store and of the output only the length counts.
+// The order of refusals of the relay calls: document 01, the paragraph 'Order'. Each function here is the verdict of one call on
+// a book; what an accepted call does is left to others. Of the store and of the output only the length counts. A packet that
+// arrives is judged in `address`.
 ghost use mathlib.Core.Path.{_≡_};
 ghost use mathlib.Core.List.{_∷_};
 ghost use Rattle.ground.specs.Refusal.{verdict, settle};
@@ -7,18 +8,13 @@ ghost use Rattle.relay.specs.Asked.{relayTests};
 ghost use Rattle.relay.specs.Take.{takeCallTests};
 ghost use Rattle.relay.specs.HandOut.{handCallTests};
 ghost use Rattle.writing.specs.Write.{emptyTests};
-ghost use Rattle.writing.specs.Send.{sendTests, ranked, heldIn};
-ghost use Rattle.writing.specs.declared.MaySend.{MaySend};
+ghost use Rattle.laden.specs.Send.{sendTests, ranked, heldIn};
+ghost use Rattle.laden.specs.declared.MaySend.{MaySend};
 ghost use Rattle.book.specs.Book.{lineOf};
-ghost use Rattle.order.specs.declared.MayArrive.{MayArrive};
-ghost use Rattle.order.specs.Order.{fitBook, roomy, lineNumber, addressTests, arrivalTests, packetLine, lineAt};
+ghost use Rattle.order.specs.Order.{fitBook, roomy, lineNumber};
 use book::Book;
-use book::Whose;
-use ground::Refusal;
 use ground::Verdict;
-use order::MayArrive;
-use packet::HeadRead;
-use writing::MaySend;
+use laden::MaySend;
 
 // May a message of n octets be taken?
 pub fn may_take(book: Book, store: usize, line: u8, channel: u8, n: usize) -> Verdict
@@ -71,51 +67,6 @@ pub fn may_send(book: Book, store: usize, line: u8, channel: u8, rank: u8, room:
     let first = order::on_both(book, store, line);
     match first {
         Verdict::Refuse(r) => MaySend::Refused(r),
-        Verdict::Pass => writing::may_send(book.line(line), channel, rank, room),
-    }
-}
-
-// The open line that a packet is for: SHORT for 6 octets, FORM, NOLINE.
-fn addressed(book: Book, s: &[u8]) -> MayArrive
-    ensures { λ r. ⌜ r ≡ settle (verdict (addressTests book (now (s .entry)))) MayArrive.Refused (MayArrive.At (lineAt (packetLine book (now (s .entry))))) ⌝ }
-{
-    let head = packet::read_head(s);
-    match head {
-        HeadRead::Refused(r) => MayArrive::Refused(r),
-        HeadRead::Says(h) => {
-            let owner = book.whose(h.identifier);
-            match owner {
-                Whose::At(i) => MayArrive::At(i),
-                Whose::Nobody => MayArrive::Refused(Refusal::NOLINE),
-            }
-        }
-    }
-}
-
-// May the packet arrive at the line that it is for: TYPE, MODE, SHORT for the list, CHANNEL, SIZE, after what its address asks.
-fn may_arrive_at(book: Book, s: &[u8]) -> MayArrive
-    ensures { λ r. ⌜ r ≡ settle (verdict (arrivalTests book (now (s .entry)))) MayArrive.Refused (MayArrive.At (lineAt (packetLine book (now (s .entry))))) ⌝ }
-{
-    let found = addressed(book, s);
-    match found {
-        MayArrive::Refused(r) => MayArrive::Refused(r),
-        MayArrive::At(i) => {
-            let last = arriving::may_arrive(book.line(i), s);
-            match last {
-                Verdict::Refuse(r) => MayArrive::Refused(r),
-                Verdict::Pass => MayArrive::At(i),
-            }
-        }
-    }
-}
-
-// May a packet arrive, and at which line?
-pub fn may_arrive(book: Book, store: usize, s: &[u8]) -> MayArrive
-    ensures { λ r. ⌜ r ≡ settle (verdict (fitBook book ∷ roomy store ∷ arrivalTests book (now (s .entry)))) MayArrive.Refused (MayArrive.At (lineAt (packetLine book (now (s .entry))))) ⌝ }
-{
-    let first = order::on_store(book, store);
-    match first {
-        Verdict::Refuse(r) => MayArrive::Refused(r),
-        Verdict::Pass => may_arrive_at(book, s),
+        Verdict::Pass => laden::may_send(book.line(line), channel, rank, room),
     }
 }

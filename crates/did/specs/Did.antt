@@ -19,7 +19,7 @@ use Rattle.line.specs.declared.Line.{Line}
 use Rattle.relay.specs.Take.{tookLine, tookStore}
 use Rattle.relay.specs.HandOut.{handedOctets, handedLine}
 use Rattle.writing.specs.Write.{wroteLine, emptyPacket}
-use Rattle.writing.specs.Send.{ranked, heldIn, heldPacket}
+use Rattle.laden.specs.Send.{ranked, heldIn, heldPacket}
 use Rattle.arriving.specs.Arrive.{arrivedLine, arrivedStore}
 use Rattle.book.specs.Book.{lineOf, withLine}
 use Rattle.book.specs.Rest.{closedAt}

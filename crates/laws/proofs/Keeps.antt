@@ -34,7 +34,7 @@ use Rattle.relay.specs.Take.{takeCallTests, tookLine}
 use Rattle.relay.specs.HandOut.{handCallTests, handedLine}
 use Rattle.relay.proofs.Keeps.{took-line-same, handed-line-same, took-line-keeps, handed-line-keeps}
 use Rattle.writing.specs.Write.{emptyTests, wroteLine}
-use Rattle.writing.specs.Send.{sendTests}
+use Rattle.laden.specs.Send.{sendTests}
 use Rattle.writing.proofs.Keeps.{wrote-line-same, wrote-line-keeps}
 use Rattle.arriving.specs.Arrive.{arrivedLine}
 use Rattle.arriving.proofs.Stays.{arrived-stays}

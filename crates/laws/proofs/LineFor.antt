@@ -16,7 +16,7 @@ use Rattle.relay.specs.Asked.{relayTests}
 use Rattle.relay.specs.Take.{takeCallTests}
 use Rattle.relay.specs.HandOut.{handCallTests}
 use Rattle.writing.specs.Write.{emptyTests}
-use Rattle.writing.specs.Send.{sendTests}
+use Rattle.laden.specs.Send.{sendTests}
 use Rattle.book.specs.Book.{lineOf}
 use Rattle.book.specs.Shape.{BookShaped}
 use Rattle.book.specs.declared.Book.{Book}
@@ -28,7 +28,7 @@ use Rattle.order.specs.Order.{tests, lineFor, openTests, closeTests, modeTests,
 use Rattle.order.specs.declared.MayArrive.{MayArrive}
 use Rattle.order.specs.declared.MayArrive.the-variants as may
 use Rattle.order.proofs.Firsts.{OnLine, line-passed, both-passed}
-use Rattle.admit.proofs.Arrivals.{addressed-owner}
+use Rattle.address.proofs.Arrivals.{addressed-owner}
 use Rattle.traffic.proofs.Passing.{addressed}
 
 -- a packet finds its line, which is open, by its identifier

@@ -21,7 +21,7 @@ use Rattle.relay.specs.Asked.{relayTests}
 use Rattle.relay.specs.Take.{takeCallTests}
 use Rattle.relay.specs.HandOut.{handCallTests}
 use Rattle.writing.specs.Write.{emptyTests}
-use Rattle.writing.specs.Send.{sendTests}
+use Rattle.laden.specs.Send.{sendTests}
 use Rattle.arriving.specs.Arrive.{arriveTests}
 use Rattle.book.specs.Book.{lineOf, bookFits, whose, taken}
 use Rattle.book.specs.declared.Book.{Book}

@@ -12,7 +12,7 @@ use ground::Refusal;
 use ground::Verdict;
 use line::Settings;
 
-// May a packet arrive, and at which line? `admit` answers it.
+// May a packet arrive, and at which line? `address` answers it.
 pub enum MayArrive {
     At(u8),
     Refused(Refusal),

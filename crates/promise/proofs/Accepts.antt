@@ -38,9 +38,9 @@ use Rattle.relay.specs.Asked.{reliable, relayTests}
 use Rattle.relay.specs.Take.{takeCallTests}
 use Rattle.relay.specs.HandOut.{handCallTests}
 use Rattle.writing.specs.Write.{headerFor, emptyTests}
-use Rattle.writing.specs.Send.{ranked, heldIn, sendTests, sentLength}
+use Rattle.laden.specs.Send.{ranked, heldIn, sendTests, sentLength}
 use Rattle.writing.proofs.Packets.{acks-few}
-use Rattle.writing.proofs.Sends.{send-may, may-passed, may-sendable, send-size}
+use Rattle.laden.proofs.Sends.{send-may, may-passed, may-sendable, send-size}
 use Rattle.effect.proofs.Effects.{narrow}
 use Rattle.book.proofs.Facts.{line-fits}
 use Rattle.order.specs.Call as call

@@ -21,7 +21,7 @@ use Rattle.relay.proofs.Keeps.{SameSettings, took-line-same, handed-line-same}
 use Rattle.relay.proofs.Lines.{take-asked, hand-asked}
 use Rattle.writing.specs.Write.{emptyTests, wroteLine}
 use Rattle.writing.specs.Write as written
-use Rattle.writing.specs.Send.{sendTests, ranked, heldIn, heldPacket}
+use Rattle.laden.specs.Send.{sendTests, ranked, heldIn, heldPacket}
 use Rattle.writing.proofs.Keeps.{wrote-line-same}
 use Rattle.order.specs.Call.{Call}
 use Rattle.order.specs.Call as call

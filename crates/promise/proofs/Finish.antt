@@ -15,7 +15,7 @@ use Rattle.flow.proofs.Flows.{none-or}
 use Rattle.line.specs.Line.{sendingOf}
 use Rattle.relay.specs.Asked.{reliable}
 use Rattle.writing.specs.Write.{wroteLine}
-use Rattle.writing.specs.Send.{ranked, heldIn}
+use Rattle.laden.specs.Send.{ranked, heldIn}
 use Rattle.effect.proofs.Effects.{narrow}
 use Rattle.order.specs.Call.{Call}
 use Rattle.order.specs.Call as call

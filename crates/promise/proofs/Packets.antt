@@ -23,10 +23,10 @@ use Rattle.line.specs.Line.{sendingOf}
 use Rattle.line.specs.declared.Line.{Line}
 use Rattle.relay.specs.Asked.{reliable}
 use Rattle.writing.specs.Write.{acksFor, headFor, emptyPacket, emptyTests}
-use Rattle.writing.specs.Send.{heldPacket, sendTests, maySend, Sendable}
-use Rattle.writing.specs.declared.MaySend.the-variants as may
+use Rattle.laden.specs.Send.{heldPacket, sendTests, maySend, Sendable}
+use Rattle.laden.specs.declared.MaySend.the-variants as may
 use Rattle.writing.proofs.Packets as written
-use Rattle.writing.proofs.Sends.{may-sendable, send-passes}
+use Rattle.laden.proofs.Sends.{may-sendable, send-passes}
 use Rattle.arriving.specs.Arrive.{arriveTests}
 use Rattle.book.specs.declared.Whose.{Whose}
 use Rattle.book.specs.declared.Whose.the-variants.{At, Nobody}

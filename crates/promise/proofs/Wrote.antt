@@ -46,10 +46,10 @@ use Rattle.store.proofs.Octets.{room-front}
 use Rattle.relay.specs.Asked.{reliable, relayTests}
 use Rattle.relay.proofs.Lines.{channel-span, region-size}
 use Rattle.writing.specs.Write.{acksFor, wroteLine, baseFor, headFor, emptyPacket, emptyTests}
-use Rattle.writing.specs.Send.{ranked, isHeld, heldIn, sendTests, maySend, heldPacket, Sendable}
-use Rattle.writing.specs.declared.MaySend.the-variants as may
+use Rattle.laden.specs.Send.{ranked, isHeld, heldIn, sendTests, maySend, heldPacket, Sendable}
+use Rattle.laden.specs.declared.MaySend.the-variants as may
 use Rattle.writing.proofs.Packets.{empty-passes}
-use Rattle.writing.proofs.Sends.{may-sendable, send-reliable, send-passes}
+use Rattle.laden.proofs.Sends.{may-sendable, send-reliable, send-passes}
 use Rattle.writing.proofs.Keeps.{wrote-line-keeps}
 use Rattle.promise.specs.Past.{Mark, Packet, wrotePast}
 use Rattle.promise.specs.Run.{also}

@@ -39,7 +39,7 @@ use Rattle.store.specs.Store.{regionOf, octetsIn}
 use Rattle.store.specs.declared.Way.the-variants as way
 use Rattle.relay.specs.Asked.{reliable}
 use Rattle.writing.specs.Write.{acksFor, headFor}
-use Rattle.writing.specs.Send.{ranked, heldIn}
+use Rattle.laden.specs.Send.{ranked, heldIn}
 use Rattle.book.specs.Book.{bookFits}
 use Rattle.book.specs.Shape.{BookShaped}
 use Rattle.order.specs.Call as call

@@ -12,7 +12,7 @@ use Rattle.mode.specs.Acts.{Act}
 use Rattle.line.specs.Line.{receivingOf}
 use Rattle.line.specs.declared.Line.{Line}
 use Rattle.line.specs.declared.Settings.{Settings}
-use Rattle.writing.specs.Send.{ranked, heldIn}
+use Rattle.laden.specs.Send.{ranked, heldIn}
 use Rattle.book.specs.Book.{freshBook, lineOf}
 use Rattle.book.specs.declared.Book.{Book}
 use Rattle.order.specs.Call.{Call}

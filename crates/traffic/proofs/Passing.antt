@@ -24,10 +24,10 @@ use Rattle.store.specs.declared.Way.the-variants.{Receiving}
 use Rattle.store.proofs.Rooms.{room-end}
 use Rattle.relay.specs.HandOut.{handCallTests, handedOctets}
 use Rattle.relay.proofs.Lines.{region-size, room-there, hand-reliable, hand-steps, hand-size}
-use Rattle.writing.specs.Send.{sendTests, ranked, heldIn, maySend, Sendable}
-use Rattle.writing.specs.declared.MaySend.{MaySend}
-use Rattle.writing.specs.declared.MaySend.the-variants as may
-use Rattle.writing.proofs.Sends.{may-sendable}
+use Rattle.laden.specs.Send.{sendTests, ranked, heldIn, maySend, Sendable}
+use Rattle.laden.specs.declared.MaySend.{MaySend}
+use Rattle.laden.specs.declared.MaySend.the-variants as may
+use Rattle.laden.proofs.Sends.{may-sendable}
 use Rattle.arriving.specs.Arrive.{arriveTests}
 use Rattle.book.specs.Book.{bookFits, lineOf}
 use Rattle.book.specs.declared.Book.{Book}
@@ -38,7 +38,7 @@ use Rattle.book.proofs.Owner.{whose-at}
 use Rattle.order.specs.Order.{fitBook, roomy, lineNumber, packetLine, isSomebody, lineAt, addressTests, arrivalTests}
 use Rattle.order.specs.declared.MayArrive.{MayArrive}
 use Rattle.order.specs.declared.MayArrive.the-variants as arrives
-use Rattle.admit.proofs.Arrivals.{told}
+use Rattle.address.proofs.Arrivals.{told}
 use Rattle.order.proofs.Firsts.{OnLine, both-passed}
 
 abbrev whySend : MaySend → Verdict

@@ -11,8 +11,8 @@ use book::Book;
 use ground::Refusal;
 use ground::Verdict;
 use ground::Written;
+use laden::MaySend;
 use order::MayArrive;
-use writing::MaySend;
 
 // What a call leaves that writes into an output: how many octets were written there.
 pub struct Gave {
@@ -84,7 +84,7 @@ pub fn send(book: Book, store: &[u8], line: u8, channel: u8, rank: u8, out: &mut
             answer: Written::Refused(r),
         },
         MaySend::Message(h) => {
-            let sent = writing::send(book.line(line), line, store, channel, h, out);
+            let sent = laden::send(book.line(line), line, store, channel, h, out);
             let answer = sent.answer;
             let next = book.with_line(line, sent.line);
             Gave { book: next, answer }
@@ -117,7 +117,7 @@ pub fn empty(book: Book, line: u8, channel: u8, out: &mut [u8]) -> Gave
 pub fn arrive(book: Book, store: &mut [u8], packet: &[u8]) -> Came
     ensures { λ r. ⌜ ((out : List ℕ) → made (arrivedSays (r .answer)) (r .book) (now (store .exit)) out ≡ did (call.arrival (now (packet .entry))) book (now (store .entry)) out) ⌝ }
 {
-    let may = admit::may_arrive(book, store.len(), packet);
+    let may = address::may_arrive(book, store.len(), packet);
     match may {
         MayArrive::Refused(r) => Came {
             book,

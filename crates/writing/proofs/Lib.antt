@@ -1,3 +1,2 @@
 pub mod Packets
-pub mod Sends
 pub mod Keeps

@@ -1,9 +1,9 @@
 use Rattle.order.proofs.Firsts.{on-both}
 use Rattle.order.specs.Order.{fitBook, roomy, lineNumber}
 use Rattle.book.specs.Book.{lineOf}
-use Rattle.writing.specs.declared.MaySend.the-variants.{Message, Refused}
-use Rattle.writing.specs.declared.MaySend.{MaySend}
-use Rattle.writing.specs.Send.{sendTests, maySend, ranked, heldIn}
+use Rattle.laden.specs.declared.MaySend.the-variants.{Message, Refused}
+use Rattle.laden.specs.declared.MaySend.{MaySend}
+use Rattle.laden.specs.Send.{sendTests, maySend, ranked, heldIn}
 use Rattle.line.specs.declared.Line.{Line}
 use Rattle.ground.proofs.Verdicts.{verdict-on, verdict-stop}
 use Rattle.ground.specs.declared.Verdict.{Verdict}

@@ -4,7 +4,7 @@ use Rattle.did.specs.Did.{made, done, effect}
 use Rattle.order.specs.Order.{tests, lineFor}
 use Rattle.order.specs.Call as call
 use Rattle.book.specs.Book.{withLine}
-use Rattle.writing.specs.Send.{heldPacket}
+use Rattle.laden.specs.Send.{heldPacket}
 use Rattle.writing.specs.Write.{wroteLine}
 use Rattle.line.specs.declared.Line.{Line}
 use Rattle.ground.specs.declared.Written.the-variants.{Wrote}

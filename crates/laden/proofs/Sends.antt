@@ -43,11 +43,11 @@ use Rattle.store.specs.declared.Way.the-variants as way
 use Rattle.store.proofs.Rooms.{room-end}
 use Rattle.relay.specs.Asked.{reliable, relayTests}
 use Rattle.relay.proofs.Lines.{ok, inside, sending-steps, channel-span, region-size, room-there}
 use Rattle.writing.specs.Write.{acksFor, headFor}
-use Rattle.writing.specs.Send.{ranked, isHeld, heldIn, sentLength, sendTests, maySend, Sendable}
-use Rattle.writing.specs.declared.MaySend.{MaySend}
-use Rattle.writing.specs.declared.MaySend.the-variants.{Message, Refused}
+use Rattle.laden.specs.Send.{ranked, isHeld, heldIn, sentLength, sendTests, maySend, Sendable}
+use Rattle.laden.specs.declared.MaySend.{MaySend}
+use Rattle.laden.specs.declared.MaySend.the-variants.{Message, Refused}
 use Rattle.writing.proofs.Packets.{acks-few, packet-passes}
 
 -- an answer by a verdict, read back
 says-passed : {h : Held} (v : Verdict) (k : Held) → settle v Refused (Message k) ≡ Message h → (v ≡ Pass) × (h ≡ k)

@@ -1,12 +1,12 @@
-use Rattle.admit.proofs.Arrivals.{arrives}
+use Rattle.address.proofs.Arrivals.{arrives}
 use Rattle.order.specs.Order.{fitBook, roomy, arrivalTests}
 use Rattle.ground.proofs.Verdicts.{verdict-on, verdict-stop}
 use denote.Ref.{now}
 use mathlib.Core.List.{[], _∷_}
 use mathlib.Core.Path.{sym, ap, _∙_}
 use borrow.Author.Needs.{needs}
-use Rattle.admit.proofs.may_arrive.Statement.{statement}
-use Rattle.admit.proofs.may_arrive.Tie as tie
+use Rattle.address.proofs.may_arrive.Statement.{statement}
+use Rattle.address.proofs.may_arrive.Tie as tie
 
 on-store-requires : tie.Need-on-store-requires
 on-store-requires c κs = search needs

@@ -21,9 +21,9 @@ use Rattle.line.specs.declared.Line.{Line}
 use Rattle.store.specs.Store.{regionOf, octetsIn}
 use Rattle.store.specs.declared.Way.the-variants.{Sending}
 use Rattle.relay.specs.Asked.{relayTests}
 use Rattle.writing.specs.Write.{acksFor, headFor, headerFor}
-use Rattle.writing.specs.declared.MaySend.{MaySend}
-use Rattle.writing.specs.declared.MaySend.the-variants.{Message, Refused}
+use Rattle.laden.specs.declared.MaySend.{MaySend}
+use Rattle.laden.specs.declared.MaySend.the-variants.{Message, Refused}
 
 -- "A held message is written by its rank among the unacknowledged ones of its channel"
 abbrev pub ranked : Line → ℕ → ℕ → Ranked

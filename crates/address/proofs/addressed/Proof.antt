@@ -1,11 +1,11 @@
-use Rattle.admit.proofs.Arrivals.{head-passes, head-refuses, head-is, address-refused, address-at, address-nobody}
+use Rattle.address.proofs.Arrivals.{head-passes, head-refuses, head-is, address-refused, address-at, address-nobody}
 use denote.Ref.{now}
 use Rattle.book.specs.Book.{whose}
 use Rattle.packet.specs.declared.Head.{Head}
 use mathlib.Core.Path.{sym, ap, _∙_}
 use borrow.Author.Needs.{needs}
-use Rattle.admit.proofs.addressed.Statement.{statement}
-use Rattle.admit.proofs.addressed.Tie as tie
+use Rattle.address.proofs.addressed.Statement.{statement}
+use Rattle.address.proofs.addressed.Tie as tie
 
 read-head-requires : tie.Need-read-head-requires
 read-head-requires c κs = search needs

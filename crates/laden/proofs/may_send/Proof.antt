@@ -2,16 +2,16 @@ use mathlib.Core.Path.{_≡_, sym, ap, _∙_}
 use Rattle.ground.specs.declared.Verdict.the-variants.{Pass}
 use Rattle.ground.specs.Refusal.{verdict}
 use Rattle.relay.specs.Asked.{relayTests}
-use Rattle.writing.specs.Send.{ranked}
+use Rattle.laden.specs.Send.{ranked}
 use native.Mathlib.Omega.{arith}
 use Rattle.sending.specs.Sending.{heldOf}
 use Rattle.channel.specs.declared.Channel.{Channel}
 use Rattle.relay.proofs.Lines.{sending-steps}
-use Rattle.writing.proofs.Sends.{send-refused, send-nothing, send-room, send-may}
+use Rattle.laden.proofs.Sends.{send-refused, send-nothing, send-room, send-may}
 use Rattle.writing.proofs.Packets.{acks-few}
 use borrow.Author.Needs.{needs}
-use Rattle.writing.proofs.may_send.Statement.{statement}
-use Rattle.writing.proofs.may_send.Tie as tie
+use Rattle.laden.proofs.may_send.Statement.{statement}
+use Rattle.laden.proofs.may_send.Tie as tie
 
 asked-requires : tie.Need-asked-requires
 asked-requires c κs = search needs

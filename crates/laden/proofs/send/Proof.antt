@@ -1,20 +1,20 @@
-use Rattle.writing.specs.Send.{heldPacket}
+use Rattle.laden.specs.Send.{heldPacket}
 use Rattle.writing.proofs.Packets.{written-out}
 use Rattle.channel.specs.Channel.{modulus}
 use lib.Bits.{bitAnd}
 use mathlib.Core.Path.{_≡_, ap, _∙_}
 use Prim.Native.Nat.{_+_, _-_, _%_, _≤_}
 use Rattle.store.specs.declared.Way.the-variants as way
 use Rattle.store.specs.Store.{roomAt, regionOf}
-use Rattle.writing.proofs.Sends.{send-end, send-owes, send-passes}
+use Rattle.laden.proofs.Sends.{send-end, send-owes, send-passes}
 use Rattle.store.specs.declared.Region.{Region}
 use denote.Ref.{now}
 use lib.ListN.{length}
 use lib.Bits.{mask-lt, and-mask}
 use native.Mathlib.Omega.{arith}
 use borrow.Author.Needs.{needs}
-use Rattle.writing.proofs.send.Statement.{statement}
-use Rattle.writing.proofs.send.Tie as tie
+use Rattle.laden.proofs.send.Statement.{statement}
+use Rattle.laden.proofs.send.Tie as tie
 
 of-requires : tie.Need-of-requires
 of-requires c κs = search needs

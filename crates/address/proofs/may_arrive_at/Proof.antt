@@ -1,5 +1,5 @@
 use Rattle.book.proofs.Turns.{many}
-use Rattle.admit.proofs.Arrivals.{addressed-in, addressed-line, arrival-on, arrival-stop, arrives}
+use Rattle.address.proofs.Arrivals.{addressed-in, addressed-line, arrival-on, arrival-stop, arrives}
 use Rattle.order.specs.declared.MayArrive.the-variants as may
 use Rattle.arriving.specs.Arrive.{arriveTests}
 use Rattle.line.specs.declared.Line.{Line}
@@ -10,8 +10,8 @@ use native.Mathlib.Omega.{arith}
 use lib.ListN.{length}
 use mathlib.Core.Path.{sym, ap, _≡_, _∙_}
 use borrow.Author.Needs.{needs}
-use Rattle.admit.proofs.may_arrive_at.Statement.{statement}
-use Rattle.admit.proofs.may_arrive_at.Tie as tie
+use Rattle.address.proofs.may_arrive_at.Statement.{statement}
+use Rattle.address.proofs.may_arrive_at.Tie as tie
 
 addressed-requires : tie.Need-addressed-requires
 addressed-requires c κs = search needs
