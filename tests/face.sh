@@ -3,7 +3,7 @@
 # The face is every `pub fn` of the crates named here; the other crates' are inner functions.
 set -u
 cd "$(dirname "$0")/.." || exit 2
-face="ground field packet connect breaks slip mode indication request recovery traffic gateway"
+face="ground field packet pack connect breaks slip mode indication request recovery outgoing incoming signals gateway"
 bad=0
 for crate in $face; do
     for file in crates/"$crate"/src/*.rt; do

@@ -11,6 +11,7 @@ use Rattle.ground.specs.declared.Refusal.{Refusal}
 use Rattle.ground.specs.declared.Refusal.the-variants.{NOLINE}
 use Rattle.ground.specs.declared.Verdict.{Verdict}
 use Rattle.ground.specs.declared.Verdict.the-variants.{Pass, Refuse}
+use Rattle.ground.proofs.Settled.{told}
 use Rattle.ground.proofs.Verdicts.{passed, verdict-on, verdict-stop, pass-both}
 use Rattle.packet.specs.Read.{headAt, headTests, headRead}
 use Rattle.packet.specs.declared.Head.{Head}
@@ -25,11 +26,6 @@ use Rattle.book.specs.declared.Whose.the-variants.{At, Nobody}
 use Rattle.order.specs.Order.{packetLine, isSomebody, lineAt, addressTests, arrivalTests}
 use Rattle.order.specs.declared.MayArrive.{MayArrive}
 use Rattle.order.specs.declared.MayArrive.the-variants as may
-
--- an answer that was settled by a verdict tells the verdict
-pub told {ℓ} : {A : Type ℓ} (why : A → Verdict) (v : Verdict) {refuse : Refusal → A} {took a : A} → a ≡ settle v refuse took → ((r : Refusal) → why (refuse r) ≡ Refuse r) → why took ≡ Pass → v ≡ why a
-told why Pass e f g = sym (ap why e ∙ g)
-told why (Refuse r) e f g = sym (ap why e ∙ f r)
 
 abbrev pub whyHead : HeadRead → Verdict
 whyHead (head.Says h) = Pass

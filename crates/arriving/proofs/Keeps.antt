@@ -40,7 +40,9 @@ use Rattle.relay.specs.Asked.{reliable}
 use Rattle.effect.specs.Effect.{Relaying, heardLine, ackedLine, ackedAll, owingLine, arrivalAt, storedLine, putAs, storedStore}
 use Rattle.arriving.specs.Arrive.{arriveTests, newsLine, carries, arrivedLine, arrivedStore}
 use Rattle.effect.proofs.Stays.{stored-stays}
-use Rattle.effect.proofs.Effects.{narrow, reliable-span, ok}
+use Rattle.channel.proofs.Windows.{window-narrow}
+use Rattle.relay.proofs.Lines.{channel-span}
+use Rattle.effect.proofs.Effects.{ok}
 use Rattle.arriving.proofs.Arrivals.{news-relaying, number-lt, arrive-relaying, arrive-size, arrive-reliable}
 
 -- no step changes how many sizes a side has
@@ -95,7 +97,7 @@ module _ (l : Line) (k : Relaying l) (h : Shaped l) (channel number : ℕ) (c : 
   owing-ok : LineOk (owingLine l channel number)
   owing-ok =
       let o : LineOk l = ok l k in
-      let p = reliable-span channel c in
+      let p = channel-span channel c in
       record {
         settings = o .settings;
         modes = o .modes;
@@ -112,8 +114,8 @@ module _ (l : Line) (k : Relaying l) (h : Shaped l) (channel number : ℕ) (c : 
   stored-relaying size f =
       let r : Receiving = receivingOf l channel in
       let m : Receiving = arrivedAs (windowOf channel) r (arrivalAt l channel number) size in
-      let long : windowOf channel ≤ length (r .sizes) = omega (arith, narrow channel, receiving-long l h channel) in
-      let fit : receivingFits (windowOf channel) largest m ≡ true = arrived-keeps (windowOf channel) largest (narrow channel) r (receiving-side l (ok l k) (k .inside) channel) number size long f in
+      let long : windowOf channel ≤ length (r .sizes) = omega (arith, window-narrow channel, receiving-long l h channel) in
+      let fit : receivingFits (windowOf channel) largest m ≡ true = arrived-keeps (windowOf channel) largest (window-narrow channel) r (receiving-side l (ok l k) (k .inside) channel) number size long f in
       let s = stored-stays l channel number size in
       record {
         fits = ok-line (withReceiving (owingLine l channel number) channel m) (with-receiving-ok (owingLine l channel number) owing-ok (k .inside) channel m fit);

@@ -1,9 +1,10 @@
 -- What a call does, once its verdict is known.
 -- Assumes nothing.
-use Prim.Native.Nat.{ℕ, zero, suc}
+use Prim.Native.Nat.{ℕ}
 use mathlib.Core.Path.{_≡_, refl, sym, ap, _∙_}
 use mathlib.Core.List.{List, [], _∷_}
-use lib.ListN.{length, getD, set}
+use lib.ListN.{length}
+use lib.Seq.{set-getD}
 use Rattle.ground.specs.Refusal.{verdict, settle}
 use Rattle.ground.specs.Answer.{Answer, accepted, refused}
 use Rattle.ground.specs.declared.Refusal.{Refusal}
@@ -20,7 +21,6 @@ use Rattle.mode.specs.declared.Modes.{Modes}
 use Rattle.mode.specs.declared.Channels.the-variants.{Stay}
 use Rattle.line.specs.Line.{closedLine}
 use Rattle.line.specs.Mode.{steppedTo}
-use Rattle.line.specs.declared.Line.{Line}
 use Rattle.book.specs.Book.{lineOf, withLine}
 use Rattle.book.specs.declared.Book.{Book}
 use Rattle.order.specs.Call.{Call}
@@ -56,12 +56,7 @@ settles m (act.tick time) = record { taken = λ e. rw (e, answer-says m time); s
 
 -- a line put back as it was leaves the book as it was
 pub same-line : (b : Book) (i : ℕ) → withLine b i (lineOf b i) ≡ b
-same-line b i = λ t. record { lines = same (b .lines) i t; resting = b .resting; rested = b .rested }
-  where
-    same : (ls : List Line) (k : ℕ) → set ls k (getD ls k closedLine) ≡ ls
-    same [] k = refl
-    same (l ∷ ls) zero = refl
-    same (l ∷ ls) (suc k) = ap (λ (m : List Line). l ∷ m) (same ls k)
+same-line b i = λ t. record { lines = set-getD (b .lines) i closedLine t; resting = b .resting; rested = b .rested }
 
 -- a mode call, once the line is known to be there: the outcome of its modes, whatever that is, is what the call does
 module _ (b : Book) (i : ℕ) (a : Act) (store out : List ℕ) (there : verdict (fitBook b ∷ lineNumber i ∷ isOpen (lineOf b i) ∷ []) ≡ Pass) where

@@ -4,13 +4,10 @@ use Prim.Native.Nat.{ℕ, _-_, _≤_, _<_}
 use mathlib.Core.Path.{_≡_, refl, sym, ap, subst, _∙_}
 use mathlib.Core.Bool.{Bool, true, false}
 use mathlib.Core.List.{List, [], _∷_}
-use mathlib.Core.Logic.{⊎-elim}
 use native.Mathlib.Omega.{arith}
-use lib.Dec.{lit≤, eqb}
-use borrow.Author.Tests.{eqb-true}
+use lib.Dec.{eqb}
 use Rattle.ground.specs.Pick.{pick}
 use Rattle.ground.proofs.Picks.{pick-by, pick-lt}
-use Rattle.ground.proofs.Either.{or-cases}
 use Rattle.field.specs.Word.{channelOf, numberOf}
 use Rattle.places.specs.Places.{maskOf, widest, bitOf}
 use Rattle.channel.specs.Channel.{windowOf}
@@ -23,6 +20,7 @@ use Rattle.receiving.specs.declared.Arrival.{Arrival}
 use Rattle.receiving.specs.declared.Arrival.the-variants.{Stored}
 use Rattle.flow.proofs.Keeps.{sending-ok, receiving-ok, heard-keeps, acked-keeps}
 use Rattle.channel.proofs.Distances.{place-lt}
+use Rattle.channel.proofs.Windows.{window-narrow}
 use Rattle.owed.proofs.Steps.{owed-ok}
 use Rattle.mode.specs.declared.Modes.{Modes}
 use Rattle.line.specs.Line.{sendingOf, receivingOf, withSides, withSending, withReceiving}
@@ -34,16 +32,6 @@ use Rattle.store.specs.declared.Way.the-variants as way
 use Rattle.relay.specs.Asked.{reliable}
 use Rattle.effect.proofs.Stays.{sent-news}
 use Rattle.effect.specs.Effect.{Relaying, heardLine, ackedLine, ackedAll, owingLine, arrivalAt, storedLine, putAs, storedStore}
-
--- a mask has room for either window
-pub narrow : (channel : ℕ) → windowOf channel ≤ widest
-narrow channel = pick-by (λ (w : ℕ). w ≤ widest) (eqb channel 1) (λ _. lit≤ tt) (λ _. lit≤ tt)
-
--- channels 1 and 2 are reliable, and no others
-pub reliable-span : (channel : ℕ) → reliable channel ≡ true → (1 ≤ channel) × (channel ≤ 2)
-reliable-span channel e =
-    ⊎-elim (λ a. let h : channel ≡ 1 = eqb-true _ _ a in (omega arith, omega arith)) (λ b. let h : channel ≡ 2 = eqb-true _ _ b in (omega arith, omega arith))
-    (or-cases (eqb channel 1) (eqb channel 2) e)
 
 -- a message that is stored lies in the window
 pub stored-near : (w : ℕ) (r : Receiving) (n : ℕ) {d : ℕ} → arrivalOf w r n ≡ Stored d → d < w
@@ -64,13 +52,13 @@ module _ (l : Line) (k : Relaying l) where
 
   module _ (channel : ℕ) where
     pub sending-steps : SendingOk (windowOf channel) (sendingOf l channel)
-    sending-steps = sending-ok (windowOf channel) largest (sendingOf l channel) (narrow channel) (sending-side l ok (k .inside) channel)
+    sending-steps = sending-ok (windowOf channel) largest (sendingOf l channel) (window-narrow channel) (sending-side l ok (k .inside) channel)
 
     pub sending-spans : (sendingOf l channel .base ≤ sendingOf l channel .taken) × (sendingOf l channel .taken - sendingOf l channel .base ≤ widest)
-    sending-spans = (sending-steps .ordered, omega (arith, sending-steps .windowed, narrow channel))
+    sending-spans = (sending-steps .ordered, omega (arith, sending-steps .windowed, window-narrow channel))
 
     pub receiving-steps : ReceivingOk (windowOf channel) (receivingOf l channel)
-    receiving-steps = receiving-ok (windowOf channel) largest (receivingOf l channel) (narrow channel) (receiving-side l ok (k .inside) channel)
+    receiving-steps = receiving-ok (windowOf channel) largest (receivingOf l channel) (window-narrow channel) (receiving-side l ok (k .inside) channel)
 
     -- with another sending side that BOOK lets pass
     sent : (s : Sending) → sendingFits (windowOf channel) largest s ≡ true → Relaying (withSending l channel s)
@@ -91,14 +79,14 @@ module _ (l : Line) (k : Relaying l) where
   unfolding heardLine
   heard-relaying channel base =
       pick-by Relaying (reliable channel)
-      (λ _. sent channel (heardBase (windowOf channel) (sendingOf l channel) base) (heard-keeps (windowOf channel) largest (narrow channel) (sendingOf l channel) (sending-side l ok (k .inside) channel) base))
+      (λ _. sent channel (heardBase (windowOf channel) (sendingOf l channel) base) (heard-keeps (windowOf channel) largest (window-narrow channel) (sendingOf l channel) (sending-side l ok (k .inside) channel) base))
       (λ _. k)
 
   pub acked-relaying : (word : ℕ) → Relaying (ackedLine l word)
   unfolding ackedLine
   acked-relaying word =
       let channel : ℕ = channelOf word in
-      sent channel (ackedBy (sendingOf l channel) (numberOf word)) (acked-keeps (windowOf channel) largest (narrow channel) (sendingOf l channel) (sending-side l ok (k .inside) channel) (numberOf word))
+      sent channel (ackedBy (sendingOf l channel) (numberOf word)) (acked-keeps (windowOf channel) largest (window-narrow channel) (sendingOf l channel) (sending-side l ok (k .inside) channel) (numberOf word))
 
 pub all-relaying : (words : List ℕ) (l : Line) → Relaying l → Relaying (ackedAll l words)
 unfolding ackedAll

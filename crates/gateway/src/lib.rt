@@ -4,61 +4,54 @@
 // Every call accepts every book, store, packet, message, setting and time, ends, and answers what document 01 says: a refusal
 // by its name, with nothing changed, or its values. Nobody has to check anything first. CONNECT and BREAK bodies and slips are
 // read and written by the crates `connect`, `breaks` and `slip`, which need no book.
+//
+// A fresh book, opening and closing stand in this file. The other calls are passed on from three crates: there stands each
+// one's contract, with what it refuses.
 ghost use Prim.Native.Nat.{ℕ};
 ghost use mathlib.Core.Path.{_≡_};
 ghost use mathlib.Core.List.{List};
 ghost use Rattle.ground.specs.Answer.{writtenAnswer};
-ghost use Rattle.mode.specs.Acts as act;
-ghost use Rattle.mode.specs.Says.{heardSays, askedSays, tickedSays};
 ghost use Rattle.book.specs.Book.{freshBook};
 ghost use Rattle.order.specs.Call as call;
 ghost use Rattle.did.specs.Did.{made, did, slipOf};
-ghost use Rattle.gateway.specs.Says.{openedSays, Tries};
+ghost use Rattle.gateway.specs.Says.{openedSays};
 use book::Book;
 use ground::Verdict;
 use ground::Written;
 use line::Line;
 use line::Settings;
-use mode::Asked;
-use mode::Heard;
 use mode::Modes;
-use mode::Ticked;
 use slip::Slip;
 
-// The calls in modem relay stand in `traffic`, with what each refuses.
-pub use traffic::arrive; // a packet arrives: answers the line that its identifier says
-pub use traffic::empty; // writes an empty packet: acknowledgements and base news
-pub use traffic::hand_out; // hands out message R of a channel
-pub use traffic::held; // reports how many messages of a channel are held unacknowledged
-pub use traffic::send; // writes a held message, by its rank, as a packet
-pub use traffic::take; // takes a message for sending: answers its number
+// The mode calls; their contracts stand in `signals`.
+pub use signals::hear; // hears an indication of the far gateway's mode: answers S, and whether a P' notice is to be sent
+pub use signals::ask; // requests a mode: answers S
+pub use signals::tick; // tells a line the time: answers whether an audio indication is due, or that recovery has ended the line
 
-// What they answer.
-pub use traffic::Arrived;
-pub use traffic::Came;
-pub use traffic::Gave;
-pub use traffic::Report;
-pub use traffic::Taken;
-pub use traffic::Took;
+// The calls in modem relay by which messages go out; their contracts stand in `outgoing`.
+pub use outgoing::take; // takes a message for sending: answers its number
+pub use outgoing::send; // writes a held message, by its rank, as a packet
+pub use outgoing::empty; // writes an empty packet: acknowledgements and base news
+pub use outgoing::held; // reports how many messages of a channel are held unacknowledged
+
+// The calls in modem relay by which messages come in; their contracts stand in `incoming`.
+pub use incoming::arrive; // a packet arrives: answers the line that its identifier says
+pub use incoming::hand_out; // hands out message R of a channel
+
+// What they leave: the book, and the answer to the call.
+pub use signals::Hears; // hear's answer is a `mode::Heard`
+pub use signals::Asks; // ask's is a `mode::Asked`
+pub use signals::Ticks; // tick's is a `mode::Ticked`
+pub use outgoing::Took; // take's is a `Taken`
+pub use outgoing::Taken; // a message's number, or a refusal
+pub use outgoing::Report; // held leaves the book alone, and answers how many, or a refusal
+pub use incoming::Came; // arrive's is an `Arrived`
+pub use incoming::Arrived; // a packet's line, or a refusal
+pub use did::Gave; // send, empty, hand_out and closing answer a `ground::Written`: how many octets are in the output, or a refusal
 
 pub struct Opened {
     pub book: Book,
     pub answer: Verdict,
-}
-
-pub struct Hears {
-    pub book: Book,
-    pub answer: Heard,
-}
-
-pub struct Asks {
-    pub book: Book,
-    pub answer: Asked,
-}
-
-pub struct Ticks {
-    pub book: Book,
-    pub answer: Ticked,
 }
 
 // A fresh book: four closed lines, and no identifier rests.
@@ -122,74 +115,6 @@ pub fn close(book: Book, line: u8, out: &mut [u8]) -> Gave
             let answer = slip::write(out, slip);
             let next = book.closed_at(line);
             Gave { book: next, answer }
-        }
-    }
-}
-
-// Hears an indication of the far gateway's mode. Answers S, and whether a P' notice is to be sent.
-// Refuses BOOK, RANGE for the line, NOLINE, CLOCK, RECOVERY, RANGE for the mode.
-pub fn hear(book: Book, line: u8, mode: u8, time: u64) -> Hears
-    ensures { λ r. ⌜ ((store out : List ℕ) → made (heardSays (r .answer)) (r .book) store out ≡ did (call.mode line (act.hear mode time)) book store out) ⌝ }
-{
-    let verdict = order::may_move(book, line);
-    match verdict {
-        Verdict::Refuse(r) => Hears {
-            book,
-            answer: Heard::Refused(r),
-        },
-        Verdict::Pass => {
-            let l = book.line(line);
-            let heard = indication::hear(l.modes, mode, time);
-            let answer = heard.answer;
-            let channels = heard.channels;
-            let stepped = l.stepped(heard.modes, channels);
-            let next = book.with_line(line, stepped);
-            Hears { book: next, answer }
-        }
-    }
-}
-
-// Requests a mode. Answers S. Refuses BOOK, RANGE for the line, NOLINE, CLOCK, RECOVERY, RANGE for the mode, MODE.
-pub fn ask(book: Book, line: u8, mode: u8, time: u64) -> Asks
-    ensures { λ r. ⌜ ((store out : List ℕ) → made (askedSays (r .answer)) (r .book) store out ≡ did (call.mode line (act.ask mode time)) book store out) ⌝ }
-{
-    let verdict = order::may_move(book, line);
-    match verdict {
-        Verdict::Refuse(r) => Asks {
-            book,
-            answer: Asked::Refused(r),
-        },
-        Verdict::Pass => {
-            let l = book.line(line);
-            let asked = request::ask(l.modes, mode, time);
-            let answer = asked.answer;
-            let channels = asked.channels;
-            let stepped = l.stepped(asked.modes, channels);
-            let next = book.with_line(line, stepped);
-            Asks { book: next, answer }
-        }
-    }
-}
-
-// Tells a line the time. Answers whether an audio indication is due, and which try, or that recovery has ended the line.
-// Refuses BOOK, RANGE for the line, NOLINE, CLOCK.
-pub fn tick(book: Book, line: u8, time: u64) -> Ticks
-    ensures { λ r. ⌜ ((store out : List ℕ) → made (tickedSays (r .answer)) (r .book) store out ≡ did (call.mode line (act.tick time)) book store out) × Tries (r .answer) ⌝ }
-{
-    let verdict = order::may_move(book, line);
-    match verdict {
-        Verdict::Refuse(r) => Ticks {
-            book,
-            answer: Ticked::Refused(r),
-        },
-        Verdict::Pass => {
-            let l = book.line(line);
-            let ticked = recovery::tick(l.modes, time);
-            let answer = ticked.answer;
-            let channels = ticked.channels;
-            let stepped = l.stepped(ticked.modes, channels);
-            let next = book.with_line(line, stepped);
-            Ticks { book: next, answer }
         }
     }
 }

@@ -1,6 +1,6 @@
 -- What a call that matches on its verdict comes to, as `settle` says it.
 -- Assumes nothing.
-use mathlib.Core.Path.{_≡_, refl, sym, _∙_}
+use mathlib.Core.Path.{_≡_, refl, sym, ap, _∙_}
 use Rattle.ground.specs.Refusal.{settle}
 use Rattle.ground.specs.declared.Refusal.{Refusal}
 use Rattle.ground.specs.declared.Verdict.{Verdict}
@@ -22,3 +22,8 @@ settled-by P (Refuse r) g h = g r refl
 -- where all tests allow it, what holds of what was taken holds of the outcome
 pub settled-took {ℓ κ} : {A : Type ℓ} (P : A → Type κ) (v : Verdict) (f : Refusal → A) {b : A} → v ≡ Pass → P b → P (settle v f b)
 settled-took P v f e p = rw e p
+
+-- an answer that was settled by a verdict tells the verdict
+pub told {ℓ} : {A : Type ℓ} (why : A → Verdict) (v : Verdict) {refuse : Refusal → A} {took a : A} → a ≡ settle v refuse took → ((r : Refusal) → why (refuse r) ≡ Refuse r) → why took ≡ Pass → v ≡ why a
+told why Pass e f g = sym (ap why e ∙ g)
+told why (Refuse r) e f g = sym (ap why e ∙ f r)

@@ -1,5 +1,5 @@
 -- One input, one outcome: any two outcomes that meet the contract of a public call are one, in the answer, in the book and in what is lent.
--- The contracts are those of the gateway's src/lib.rt: x and y stand for what a call returns, p and q for what it leaves in the slice that is lent.
+-- The contracts are those in the src/lib.rt of gateway, signals, outgoing and incoming: x and y stand for what a call returns, p and q for what it leaves in the slice that is lent.
 -- Assumes nothing.
 use Prim.Native.Nat.{ℕ}
 use mathlib.Core.Path.{_≡_, sym, ap, _∙_}
@@ -12,17 +12,19 @@ use Rattle.book.specs.declared.Book.{Book}
 use Rattle.order.specs.Call.{Call}
 use Rattle.order.specs.Call as call
 use Rattle.did.specs.Did.{Did, made, did}
-use Rattle.gateway.specs.Says.{openedSays, Tries}
-use Rattle.traffic.specs.Says.{takenSays, arrivedSays, reportSays}
+use Rattle.did.specs.declared.Gave.{Gave}
+use Rattle.outgoing.specs.Says.{takenSays, reportSays}
+use Rattle.outgoing.specs.declared.Took.{Took}
+use Rattle.outgoing.specs.declared.Report.{Report}
+use Rattle.incoming.specs.Says.{arrivedSays}
+use Rattle.incoming.specs.declared.Came.{Came}
+use Rattle.signals.specs.Tries.{Tries}
+use Rattle.signals.specs.declared.Hears.{Hears}
+use Rattle.signals.specs.declared.Asks.{Asks}
+use Rattle.signals.specs.declared.Ticks.{Ticks}
+use Rattle.gateway.specs.Says.{openedSays}
 use Rattle.gateway.specs.declared.Opened.{Opened}
-use Rattle.traffic.specs.declared.Gave.{Gave}
-use Rattle.gateway.specs.declared.Hears.{Hears}
-use Rattle.gateway.specs.declared.Asks.{Asks}
-use Rattle.gateway.specs.declared.Ticks.{Ticks}
-use Rattle.traffic.specs.declared.Took.{Took}
-use Rattle.traffic.specs.declared.Came.{Came}
-use Rattle.traffic.specs.declared.Report.{Report}
-use Rattle.gateway.proofs.Answers.{one-opened, one-written, one-heard, one-asked, one-ticked, one-taken, one-arrived, one-report}
+use Rattle.laws.proofs.Answers.{one-opened, one-written, one-heard, one-asked, one-ticked, one-taken, one-arrived, one-report}
 
 -- what is made up of the same has the same parts
 record Alike (a c : Answer) (b d : Book) (s t o p : List ℕ) : Type 0 where

@@ -49,7 +49,7 @@ use Rattle.order.specs.Call as call
 use Rattle.order.specs.Order.{tests, lineFor, openTests, closeTests, modeTests, packetLine, lineAt}
 use Rattle.order.proofs.Firsts.{line-passed, both-passed}
 use Rattle.did.specs.Did.{Did, did, done, effect}
-use Rattle.traffic.proofs.Passing.{addressed}
+use Rattle.incoming.proofs.Passing.{addressed}
 
 -- a book that passes: BOOK lets it pass, and its arrays have the lengths that they are declared with
 abbrev pub Passes : Book → Type 0

@@ -4,5 +4,6 @@ pub mod Others
 pub mod Own
 pub mod Identifiers
 pub mod Unread
+pub mod Answers
 pub mod Determined
 pub mod Bodies

@@ -29,7 +29,7 @@ use Rattle.order.specs.declared.MayArrive.{MayArrive}
 use Rattle.order.specs.declared.MayArrive.the-variants as may
 use Rattle.order.proofs.Firsts.{OnLine, line-passed, both-passed}
 use Rattle.address.proofs.Arrivals.{addressed-owner}
-use Rattle.traffic.proofs.Passing.{addressed}
+use Rattle.incoming.proofs.Passing.{addressed}
 
 -- a packet finds its line, which is open, by its identifier
 pub pass-address : (b : Book) (s : List ℕ) → verdict (addressTests b s) ≡ Pass → lineOf b (lineAt (packetLine b s)) .opened ≡ true

@@ -44,7 +44,7 @@ use Rattle.order.specs.Call as call
 use Rattle.order.specs.Order.{tests, lineFor, packetLine, lineAt}
 use Rattle.order.proofs.Firsts.{both-passed}
 use Rattle.did.specs.Did.{Did, did, done, effect}
-use Rattle.traffic.proofs.Passing.{addressed}
+use Rattle.incoming.proofs.Passing.{addressed}
 
 -- Every line but the one that the call is for has the record that it had.
 pub others-stay : (c : Call) (b : Book) (store out : List ℕ) (j : ℕ) → (lineFor c b ≡ j → ⊥) → lineOf (did c b store out .book) j ≡ lineOf b j

@@ -41,7 +41,7 @@ use Rattle.writing.specs.Write.{headerFor, emptyTests}
 use Rattle.laden.specs.Send.{ranked, heldIn, sendTests, sentLength}
 use Rattle.writing.proofs.Packets.{acks-few}
 use Rattle.laden.proofs.Sends.{send-may, may-passed, may-sendable, send-size}
-use Rattle.effect.proofs.Effects.{narrow}
+use Rattle.channel.proofs.Windows.{window-narrow}
 use Rattle.book.proofs.Facts.{line-fits}
 use Rattle.order.specs.Call as call
 use Rattle.order.specs.Order.{tests, fitBook, roomy, lineNumber}
@@ -161,7 +161,7 @@ module _ {i identifier kind : ℕ} {g : Gateway} {p : Past} (s : Sound i identif
         let d = n - k .base in
         let base : sendsBy g i p channel .h ≡ k .base = ap (λ (e : End). sent e channel .h) now in
         let bit : bitOf m d ≡ true = full-bit (windowOf channel) (roomsOf (g .store) i way.Sending channel) (k .sizes) m (k .first) d (subst (λ (e : End). Full (sent e channel .held n)) now full) in
-        let near : d < 32 = omega (arith, j .there channel v .high, narrow channel) in
+        let near : d < 32 = omega (arith, j .there channel v .high, window-narrow channel) in
         let r = rank-of m d near bit in
         (setBelow m d, r .1, ap (λ (x : Ranked). heldIn x .number) (ranked-is (lineAt g i) channel (setBelow m d) (r .0)) ∙ back (k .base) (omega arith))
       where

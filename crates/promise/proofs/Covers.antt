@@ -20,7 +20,7 @@ use Rattle.order.specs.Call.{Call}
 use Rattle.order.specs.Call as call
 use Rattle.order.specs.Order.{tests, lineFor, fitBook, lineNumber, openTests}
 use Rattle.did.specs.Did.{effect}
-use Rattle.traffic.proofs.Passing.{addressed}
+use Rattle.incoming.proofs.Passing.{addressed}
 use Rattle.promise.specs.Past.{Past, tookPast, handedPast, wrotePast, heardPast}
 use Rattle.promise.specs.Ours.{does, after, Adds}
 use Rattle.promise.specs.Run.{Gateway, accepts, given, lineAt, Relays, sentPacket, emptyPacket, Provided, refused, elsewhere, moded, reported, took, handed, sent, wrote, heard}

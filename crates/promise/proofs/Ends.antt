@@ -27,7 +27,7 @@ use Rattle.line.specs.declared.Line.{Line}
 use Rattle.line.proofs.Keeps.{line-ok, sending-side, receiving-side}
 use Rattle.mode.specs.Given.{modem}
 use Rattle.relay.specs.Asked.{reliable}
-use Rattle.effect.proofs.Effects.{narrow}
+use Rattle.channel.proofs.Windows.{window-narrow}
 use Rattle.promise.specs.Past.{Mark, Packet, Past}
 use Rattle.promise.specs.Run.{Each, bound}
 use Rattle.promise.specs.Ends.{sendsOf, receivesOf}
@@ -119,10 +119,10 @@ turn j = record { mine = j .yours; yours = j .mine; there = j .back; back = j .t
 -- what the steps ask of the sides
 module _ {l : Line} (k : Sides l) (channel : ℕ) where
   pub sends-ok : SendingOk (windowOf channel) (sendingOf l channel)
-  sends-ok = sending-ok (windowOf channel) largest (sendingOf l channel) (narrow channel) (k .sending channel)
+  sends-ok = sending-ok (windowOf channel) largest (sendingOf l channel) (window-narrow channel) (k .sending channel)
 
   pub gets-ok : ReceivingOk (windowOf channel) (receivingOf l channel)
-  gets-ok = receiving-ok (windowOf channel) largest (receivingOf l channel) (narrow channel) (k .receiving channel)
+  gets-ok = receiving-ok (windowOf channel) largest (receivingOf l channel) (window-narrow channel) (k .receiving channel)
 
 -- a window and the bound together are within the numbers' span
 pub wide : (channel : ℕ) → windowOf channel + bound ≤ modulus

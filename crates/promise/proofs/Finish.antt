@@ -16,7 +16,7 @@ use Rattle.line.specs.Line.{sendingOf}
 use Rattle.relay.specs.Asked.{reliable}
 use Rattle.writing.specs.Write.{wroteLine}
 use Rattle.laden.specs.Send.{ranked, heldIn}
-use Rattle.effect.proofs.Effects.{narrow}
+use Rattle.channel.proofs.Windows.{window-narrow}
 use Rattle.order.specs.Call.{Call}
 use Rattle.order.specs.Call as call
 use Rattle.order.specs.Order.{lineFor}
@@ -120,8 +120,8 @@ module _ (i j identifier kind c : ℕ) (v : reliable c ≡ true) (g₀ : Gateway
     honest =
         let there = r .pair .joined .there c v in
         let back = joined .back c v in
-        let lately : Recent (p .taken) (rankedMark g i c rank) = omega (arith, there .count, there .high, narrow c, number, ap (λ (x : Sends). x .h) (r .shows), ap (λ (x : Sends). x .S) (r .shows), low) in
-        let near : Recent (q .taken) (baseMark g i c) = omega (arith, back .count, back .high, back .low, narrow c) in
+        let lately : Recent (p .taken) (rankedMark g i c rank) = omega (arith, there .count, there .high, window-narrow c, number, ap (λ (x : Sends). x .h) (r .shows), ap (λ (x : Sends). x .S) (r .shows), low) in
+        let near : Recent (q .taken) (baseMark g i c) = omega (arith, back .count, back .high, back .low, window-narrow c) in
         record {
           written = List·Memᴰ·head refl;
           same = refl;

@@ -33,7 +33,7 @@ use Rattle.mode.specs.declared.Channels.the-variants.{Stay, Fresh, Emptied}
 use Rattle.store.specs.declared.Way.{Way}
 use Rattle.store.specs.declared.Way.the-variants as way
 use Rattle.relay.specs.Asked.{reliable}
-use Rattle.effect.proofs.Effects.{narrow}
+use Rattle.channel.proofs.Windows.{window-narrow}
 use Rattle.promise.specs.Past.{Past}
 use Rattle.promise.specs.Run.{Each, none}
 use Rattle.promise.specs.Ends.{roomsOf, sendsOf, receivesOf}
@@ -82,8 +82,8 @@ module _ {l : Line} (u : Unused l) where
   pub unused-sides : Sides l
   unused-sides =
       record {
-        sending = λ c. subst (λ (s : Sending). sendingFits (windowOf c) largest s ≡ true) (sym (u .sending c)) (fresh-sending (windowOf c) largest (narrow c) (some c));
-        receiving = λ c. subst (λ (r : Receiving). receivingFits (windowOf c) largest r ≡ true) (sym (u .receiving c)) (fresh-receiving (windowOf c) largest (narrow c) (some c));
+        sending = λ c. subst (λ (s : Sending). sendingFits (windowOf c) largest s ≡ true) (sym (u .sending c)) (fresh-sending (windowOf c) largest (window-narrow c) (some c));
+        receiving = λ c. subst (λ (r : Receiving). receivingFits (windowOf c) largest r ≡ true) (sym (u .receiving c)) (fresh-receiving (windowOf c) largest (window-narrow c) (some c));
       }
     where
       some : (c : ℕ) → 0 < windowOf c

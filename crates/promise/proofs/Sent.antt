@@ -38,7 +38,7 @@ use Rattle.relay.specs.Asked.{reliable, relayTests}
 use Rattle.relay.specs.Take.{takeCallTests, tookLine, tookStore}
 use Rattle.relay.proofs.Lines.{channel-span, take-asked, take-reliable, take-fits, take-size, take-window, take-place}
 use Rattle.relay.proofs.Keeps.{with-sending-same, took-line-keeps}
-use Rattle.effect.proofs.Effects.{narrow}
+use Rattle.channel.proofs.Windows.{window-narrow}
 use Rattle.promise.specs.Past.{more, tookPast}
 use Rattle.promise.specs.Run.{bound}
 use Rattle.promise.specs.Ends.{roomsOf}
@@ -152,4 +152,4 @@ taking-joined {e} {f} channel m pass j =
     (took-flow (windowOf channel) bound (wide channel) (sendingOf l channel) (receivingOf (f .line) channel)
     (roomsOf (e .store) (e .i) way.Sending channel) (roomsOf (f .store) (f .i) way.Receiving channel) (e .past .taken channel) (f .past .handed channel)
     (sends-ok (k .sides) channel) (gets-ok (j .yours .sides) channel) (j .there channel v)
-    (roomsOf (tookStore l (e .i) channel m (e .store)) (e .i) way.Sending channel) m (omega (arith, z, narrow channel)) (take-window l (k .fits) channel n pass) some put))
+    (roomsOf (tookStore l (e .i) channel m (e .store)) (e .i) way.Sending channel) m (omega (arith, z, window-narrow channel)) (take-window l (k .fits) channel n pass) some put))

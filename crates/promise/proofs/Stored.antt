@@ -34,7 +34,8 @@ use Rattle.store.specs.declared.Way.the-variants as way
 use Rattle.store.proofs.Rooms.{Whose, Served}
 use Rattle.relay.specs.Asked.{reliable}
 use Rattle.effect.specs.Effect.{Relaying, owingLine, arrivalAt, storedLine, putAs, storedStore}
-use Rattle.effect.proofs.Effects.{narrow, stored-near, place-near}
+use Rattle.channel.proofs.Windows.{window-narrow}
+use Rattle.effect.proofs.Effects.{stored-near, place-near}
 use Rattle.effect.proofs.Stays.{stored-stays}
 use Rattle.arriving.proofs.Keeps.{stored-relaying, stored-shaped, stored-store-length}
 use Rattle.promise.specs.Past.{enter}
@@ -102,7 +103,7 @@ module _ {e f : End} (k : Relaying (e .line)) (j : Joined e f) (channel : ℕ) (
         rw (arrival-field w r n) (arrived-moves w (roomsOf (e .store) (e .i) way.Receiving channel) r (gets-ok (j .mine .sides) channel) largest bound (sendingOf (f .line) channel .taken)
         (wide channel) (b .mid) (omega (arith, b .low, b .high)) (receiving-sized w largest r (j .mine .sides .receiving channel))
         (rooms-roomy (e .store) (j .mine .long) (e .i) (j .mine .small) way.Receiving channel v) (roomsOf (put (arrivalOf w r n)) (e .i) way.Receiving channel) n x
-        (omega (arith, there .known, b .count)) (omega (arith, fresh, b .count)) (omega (arith, receiving-long l (j .mine .shaped) channel, narrow channel))
+        (omega (arith, there .known, b .count)) (omega (arith, fresh, b .count)) (omega (arith, receiving-long l (j .mine .shaped) channel, window-narrow channel))
         (put-rooms (arrivalOf w r n) (λ d q. stored-near w r n q)))
 
     side : got (afterStoring e channel n x) channel ≡ new

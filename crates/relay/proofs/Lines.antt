@@ -7,7 +7,7 @@ use mathlib.Core.Logic.{⊎-elim}
 use native.Mathlib.Omega.{arith}
 use mathlib.Core.Path.{_≡_, refl}
 use mathlib.Core.Bool.{Bool, true, false}
-use lib.Dec.{lit≤, eqb, ltb, leb}
+use lib.Dec.{eqb, ltb, leb}
 use borrow.Author.Tests.{eqb-true, ltb-true, leb-true}
 use Rattle.ground.specs.Pick.{pick}
 use Rattle.ground.specs.Refusal.{must, verdict}
@@ -21,6 +21,7 @@ use Rattle.channel.specs.Channel.{windowOf, cap}
 use Rattle.channel.specs.Sizes.{sizeFits}
 use Rattle.sending.specs.Sending.{SendingOk, takeTests, underWay, nextPlace}
 use Rattle.channel.proofs.Distances.{place-lt}
+use Rattle.channel.proofs.Windows.{window-narrow}
 use Rattle.receiving.specs.Receiving.{ReceivingOk, handTests, nextSize}
 use Rattle.channel.specs.Distance.{placeOf}
 use Rattle.receiving.specs.declared.Receiving.{Receiving}
@@ -37,13 +38,6 @@ use Rattle.store.proofs.Rooms.{Whose, region-end}
 use Rattle.relay.specs.Asked.{reliable, relayTests}
 use Rattle.relay.specs.Take.{takeCallTests}
 use Rattle.relay.specs.HandOut.{handCallTests}
-
-window-narrow : (channel : ℕ) → windowOf channel ≤ widest
-window-narrow channel = go (eqb channel 1)
-  where
-    go : (t : Bool) → pick t 32 8 ≤ widest
-    go true = lit≤ tt
-    go false = lit≤ tt
 
 module _ (l : Line) (fits : lineFits l ≡ true) (channel : ℕ) (pass : verdict (relayTests l channel) ≡ Pass) where
   tests : Holds (relayTests l channel)

@@ -1,4 +1,5 @@
-use Rattle.effect.proofs.Effects.{owes, reliable-span}
+use Rattle.relay.proofs.Lines.{channel-span}
+use Rattle.effect.proofs.Effects.{owes}
 use Rattle.owed.specs.Owed.{entered}
 use native.Mathlib.Omega.{arith}
 use mathlib.Core.Path.{ap, _∙_}
@@ -8,7 +9,7 @@ use Rattle.effect.proofs.number_owed.Tie as tie
 
 word-requires : tie.Need-word-requires
 word-requires c κs =
-    let h = reliable-span (c .args .channel) (c .pre .1) in
+    let h = channel-span (c .args .channel) (c .pre .1) in
     (omega arith, c .pre .2)
 
 enter-requires : tie.Need-enter-requires

@@ -1,4 +1,5 @@
-use Rattle.effect.proofs.Effects.{narrow, stored-near, receiving-steps, place-near, same-side, stored-line, stored-store}
+use Rattle.channel.proofs.Windows.{window-narrow}
+use Rattle.effect.proofs.Effects.{stored-near, receiving-steps, place-near, same-side, stored-line, stored-store}
 use Rattle.effect.specs.Effect.{arrivalAt}
 use Rattle.relay.proofs.Lines.{region-size, room-there}
 use Rattle.store.specs.Store.{roomAt}
@@ -28,7 +29,7 @@ of-requires c κs = search needs
 arrival-requires : tie.Need-arrival-requires
 arrival-requires c κs =
     let w = ap (λ (k : Channel). k .window) (c .of .ensures) in
-    rw w (narrow (c .before .before .before .before .before .args .channel))
+    rw w (window-narrow (c .before .before .before .before .before .args .channel))
 
 enum-known-arrival : tie.Need-enum-known-arrival
 enum-known-arrival c = search needs

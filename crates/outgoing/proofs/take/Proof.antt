@@ -1,0 +1,81 @@
+use Rattle.did.proofs.Dids.{did-refused, did-done}
+use Rattle.did.specs.Did.{made, done, effect}
+use Rattle.order.proofs.Firsts.{both-passed}
+use Rattle.order.specs.Order.{tests, lineFor}
+use Rattle.order.specs.Call as call
+use Rattle.book.specs.Book.{lineOf, withLine}
+use Rattle.relay.specs.Take.{takeCallTests, tookLine, tookStore}
+use Rattle.line.specs.declared.Line.{Line}
+use Rattle.line.specs.Line.{sendingOf}
+use Rattle.sending.specs.declared.Sending.{Sending}
+use Rattle.channel.specs.Channel.{modulus}
+use Rattle.ground.specs.Answer.{accepted}
+use denote.Ref.{now}
+use lib.ListN.{length}
+use lib.Bits.{mask-lt, and-mask}
+use native.Mathlib.Omega.{arith}
+use Prim.Native.Nat.{ℕ, _%_}
+use mathlib.Core.List.{[], _∷_}
+use mathlib.Core.Path.{sym, ap, _∙_}
+use borrow.Author.Needs.{needs}
+use Rattle.outgoing.proofs.take.Statement.{statement}
+use Rattle.outgoing.proofs.take.Tie as tie
+
+may-take-requires : tie.Need-may-take-requires
+may-take-requires c κs = search needs
+
+enum-known-verdict : tie.Need-enum-known-verdict
+enum-known-verdict c = search needs
+
+enum-told : tie.Need-enum-told
+enum-told c = search needs
+
+line-requires : tie.Need-line-requires
+line-requires c κs = let a = c .before .before .before .before .before .args in both-passed (a .book) (length (now (a .store))) (a .line) (takeCallTests (lineOf (a .book) (a .line)) (a .channel) (length (now (a .message)))) (sym (c .before .before .may-take .ensures) ∙ c .enum-told .given .1) .0 .number
+
+sending-requires : tie.Need-sending-requires
+sending-requires c κs = search needs
+
+cast-number : tie.Need-cast-number
+cast-number c = record { fits = omega (arith, mask-lt (c .before .sending .result .taken) 14) }
+
+take-requires : tie.Need-take-requires
+take-requires c κs = let a = c .before .before .before .before .before .before .before .before .before .args in let k = both-passed (a .book) (length (now (a .store))) (a .line) (takeCallTests (lineOf (a .book) (a .line)) (a .channel) (length (now (a .message)))) (sym (c .before .before .before .before .before .before .may-take .ensures) ∙ c .before .before .before .before .enum-told .given .1) in rw (c .before .before .before .line .ensures) (k .0 .line, k .0 .number, k .1, k .2)
+
+with-line-requires : tie.Need-with-line-requires
+with-line-requires c κs = let a = c .before .before .before .before .before .before .before .before .before .before .before .before .args in both-passed (a .book) (length (now (a .store))) (a .line) (takeCallTests (lineOf (a .book) (a .line)) (a .channel) (length (now (a .message)))) (sym (c .before .before .before .before .before .before .before .before .before .may-take .ensures) ∙ c .before .before .before .before .before .before .before .enum-told .given .1) .0 .number
+
+returns : tie.Need-returns
+unfolding tests done effect lineFor
+returns c = λ out. let a = c .before .before .before .before .before .before .args in sym (did-refused (call.taking (a .line) (a .channel) (now (a .message))) (a .book) (now (a .store)) out (sym (c .before .before .before .may-take .ensures) ∙ c .before .verdict .given .1))
+
+same-length : tie.Need-same-length
+same-length c = search needs
+
+returns-2 : tie.Need-returns-2
+unfolding tests done effect lineFor
+returns-2 c =
+    λ out. let a = c .before .before .before .before .before .before .before .before .before .before .before .before .before .args in
+    let l = c .before .before .before .before .before .before .before .line .ensures in
+    let n : ℕ = length (now (a .message)) in
+    let s = c .before .before .before .before .before .before .sending .ensures ∙ ap (λ (k : Line). sendingOf k (a .channel)) l in
+    let m = and-mask (c .before .before .before .before .before .before .sending .result .taken) 14 ∙ ap (λ (k : Sending). k .taken % modulus) s in
+    let b = c .with-line .ensures ∙ ap (λ (k : Line). withLine (a .book) (a .line) k) (c .before .before .before .take .ensures .0 ∙ ap (λ (k : Line). tookLine k (a .channel) n) l) in
+    let o = c .before .before .before .take .ensures .1 ∙ ap (λ (k : Line). tookStore k (a .line) (a .channel) (now (a .message)) (now (a .store))) l in
+    (λ t. made (accepted (m t ∷ [])) (b t) (o t) out) ∙ sym (did-done (call.taking (a .line) (a .channel) (now (a .message))) (a .book) (now (a .store)) out (sym (c .before .before .before .before .before .before .before .before .before .before .may-take .ensures) ∙ c .before .before .before .before .before .before .before .before .enum-told .given .1))
+
+pub take-spec : {M : Type 1} → statement M
+take-spec =
+    tie.close
+    (tie.spec
+    may-take-requires
+    enum-known-verdict
+    enum-told
+    line-requires
+    sending-requires
+    cast-number
+    take-requires
+    with-line-requires
+    returns
+    same-length
+    returns-2)

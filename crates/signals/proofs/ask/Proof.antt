@@ -1,0 +1,66 @@
+use Rattle.did.proofs.Dids.{did-refused, moved-did}
+use Rattle.did.specs.Did.{made}
+use Rattle.order.proofs.Firsts.{line-passed}
+use Rattle.order.specs.Order.{fitBook, lineNumber, isOpen, actTests, modeTests, tests}
+use Rattle.order.specs.Call as call
+use Rattle.ground.proofs.Verdicts.{verdict-stop}
+use Rattle.book.specs.Book.{lineOf, withLine}
+use Rattle.line.specs.declared.Line.{Line}
+use Rattle.line.specs.Mode.{steppedTo}
+use Rattle.mode.specs.Says.{askedSays}
+use Rattle.mode.specs.Request.{asking}
+use Rattle.mode.specs.Acts as act
+use mathlib.Core.List.{[], _∷_}
+use mathlib.Core.Path.{sym, ap, _∙_}
+use borrow.Author.Needs.{needs}
+use Rattle.signals.proofs.ask.Statement.{statement}
+use Rattle.signals.proofs.ask.Tie as tie
+
+may-move-requires : tie.Need-may-move-requires
+may-move-requires c κs = search needs
+
+enum-known-verdict : tie.Need-enum-known-verdict
+enum-known-verdict c = search needs
+
+enum-told : tie.Need-enum-told
+enum-told c = search needs
+
+line-requires : tie.Need-line-requires
+line-requires c κs = let a = c .before .before .before .args in line-passed (a .book) (a .line) (isOpen (lineOf (a .book) (a .line)) ∷ []) (sym (c .before .before .may-move .ensures) ∙ c .enum-told .given .1) .0 .number
+
+ask-requires : tie.Need-ask-requires
+ask-requires c κs = search needs
+
+stepped-requires : tie.Need-stepped-requires
+stepped-requires c κs = search needs
+
+with-line-requires : tie.Need-with-line-requires
+with-line-requires c κs = let a = c .before .before .before .before .before .before .args in line-passed (a .book) (a .line) (isOpen (lineOf (a .book) (a .line)) ∷ []) (sym (c .before .before .before .before .before .may-move .ensures) ∙ c .before .before .before .enum-told .given .1) .0 .number
+
+returns : tie.Need-returns
+unfolding tests modeTests
+returns c = λ store out. let a = c .before .before .before .before .args in sym (did-refused (call.mode (a .line) (act.ask (a .mode) (a .time))) (a .book) store out (verdict-stop (fitBook (a .book) ∷ lineNumber (a .line) ∷ isOpen (lineOf (a .book) (a .line)) ∷ []) (actTests (lineOf (a .book) (a .line) .modes) (act.ask (a .mode) (a .time))) (sym (c .before .before .before .may-move .ensures) ∙ c .before .verdict .given .1)))
+
+returns-2 : tie.Need-returns-2
+unfolding tests modeTests
+returns-2 c =
+    λ store out. let a = c .before .before .before .before .before .before .before .args in
+    let l = c .before .before .before .line .ensures in
+    let h = c .before .before .ask .ensures .0 ∙ ap (λ (k : Line). asking (k .modes) (a .mode) (a .time)) l in
+    let s = c .before .stepped .ensures ∙ (λ t. steppedTo (l t) (h t .modes) (h t .channels)) in
+    let b = c .with-line .ensures ∙ ap (λ (k : Line). withLine (a .book) (a .line) k) s in
+    (λ t. made (askedSays (h t .answer)) (b t) store out) ∙ moved-did (a .book) (a .line) (act.ask (a .mode) (a .time)) store out (sym (c .before .before .before .before .before .before .may-move .ensures) ∙ c .before .before .before .before .enum-told .given .1)
+
+pub ask-spec : {M : Type 1} → statement M
+ask-spec =
+    tie.close
+    (tie.spec
+    may-move-requires
+    enum-known-verdict
+    enum-told
+    line-requires
+    ask-requires
+    stepped-requires
+    with-line-requires
+    returns
+    returns-2)

@@ -1,0 +1,98 @@
+// The mode calls on a book of four lines: an indication heard, a request, a tick. They are calls of the library, and `gateway` passes
+// them on.
+ghost use Prim.Native.Nat.{ℕ};
+ghost use mathlib.Core.Path.{_≡_};
+ghost use mathlib.Core.List.{List};
+ghost use Rattle.mode.specs.Acts as act;
+ghost use Rattle.mode.specs.Says.{heardSays, askedSays, tickedSays};
+ghost use Rattle.order.specs.Call as call;
+ghost use Rattle.did.specs.Did.{made, did};
+ghost use Rattle.signals.specs.Tries.{Tries};
+use book::Book;
+use ground::Verdict;
+use mode::Asked;
+use mode::Heard;
+use mode::Ticked;
+
+pub struct Hears {
+    pub book: Book,
+    pub answer: Heard,
+}
+
+pub struct Asks {
+    pub book: Book,
+    pub answer: Asked,
+}
+
+pub struct Ticks {
+    pub book: Book,
+    pub answer: Ticked,
+}
+
+// Hears an indication of the far gateway's mode. Answers S, and whether a P' notice is to be sent.
+// Refuses BOOK, RANGE for the line, NOLINE, CLOCK, RECOVERY, RANGE for the mode.
+pub fn hear(book: Book, line: u8, mode: u8, time: u64) -> Hears
+    ensures { λ r. ⌜ ((store out : List ℕ) → made (heardSays (r .answer)) (r .book) store out ≡ did (call.mode line (act.hear mode time)) book store out) ⌝ }
+{
+    let verdict = order::may_move(book, line);
+    match verdict {
+        Verdict::Refuse(r) => Hears {
+            book,
+            answer: Heard::Refused(r),
+        },
+        Verdict::Pass => {
+            let l = book.line(line);
+            let heard = indication::hear(l.modes, mode, time);
+            let answer = heard.answer;
+            let channels = heard.channels;
+            let stepped = l.stepped(heard.modes, channels);
+            let next = book.with_line(line, stepped);
+            Hears { book: next, answer }
+        }
+    }
+}
+
+// Requests a mode. Answers S. Refuses BOOK, RANGE for the line, NOLINE, CLOCK, RECOVERY, RANGE for the mode, MODE.
+pub fn ask(book: Book, line: u8, mode: u8, time: u64) -> Asks
+    ensures { λ r. ⌜ ((store out : List ℕ) → made (askedSays (r .answer)) (r .book) store out ≡ did (call.mode line (act.ask mode time)) book store out) ⌝ }
+{
+    let verdict = order::may_move(book, line);
+    match verdict {
+        Verdict::Refuse(r) => Asks {
+            book,
+            answer: Asked::Refused(r),
+        },
+        Verdict::Pass => {
+            let l = book.line(line);
+            let asked = request::ask(l.modes, mode, time);
+            let answer = asked.answer;
+            let channels = asked.channels;
+            let stepped = l.stepped(asked.modes, channels);
+            let next = book.with_line(line, stepped);
+            Asks { book: next, answer }
+        }
+    }
+}
+
+// Tells a line the time. Answers whether an audio indication is due, and which try, or that recovery has ended the line.
+// Refuses BOOK, RANGE for the line, NOLINE, CLOCK.
+pub fn tick(book: Book, line: u8, time: u64) -> Ticks
+    ensures { λ r. ⌜ ((store out : List ℕ) → made (tickedSays (r .answer)) (r .book) store out ≡ did (call.mode line (act.tick time)) book store out) × Tries (r .answer) ⌝ }
+{
+    let verdict = order::may_move(book, line);
+    match verdict {
+        Verdict::Refuse(r) => Ticks {
+            book,
+            answer: Ticked::Refused(r),
+        },
+        Verdict::Pass => {
+            let l = book.line(line);
+            let ticked = recovery::tick(l.modes, time);
+            let answer = ticked.answer;
+            let channels = ticked.channels;
+            let stepped = l.stepped(ticked.modes, channels);
+            let next = book.with_line(line, stepped);
+            Ticks { book: next, answer }
+        }
+    }
+}
