@@ -5,8 +5,9 @@
 // by its name, with nothing changed, or its values. Nobody has to check anything first. CONNECT and BREAK bodies and slips are
 // read and written by the crates `connect`, `breaks` and `slip`, which need no book.
 //
-// A fresh book, opening and closing stand in this file. The other calls are passed on from three crates: there stands each
-// one's contract, with what it refuses.
+// Every call that is given a book refuses BOOK first, then ROOM where it is lent a store that is too small, then RANGE where it
+// names a line over 3. What it refuses after that is said beside it, in order. A fresh book, opening and closing stand in this
+// file; the other calls are passed on from three crates, where each one's contract stands.
 ghost use Prim.Native.Nat.{ℕ};
 ghost use mathlib.Core.Path.{_≡_};
 ghost use mathlib.Core.List.{List};
@@ -24,19 +25,19 @@ use mode::Modes;
 use slip::Slip;
 
 // The mode calls; their contracts stand in `signals`.
-pub use signals::hear; // hears an indication of the far gateway's mode: answers S, and whether a P' notice is to be sent
-pub use signals::ask; // requests a mode: answers S
-pub use signals::tick; // tells a line the time: answers whether an audio indication is due, or that recovery has ended the line
+pub use signals::hear; // hears an indication: answers S, and whether a P' notice is to be sent. NOLINE, CLOCK, RECOVERY, RANGE
+pub use signals::ask; // requests a mode: answers S. NOLINE, CLOCK, RECOVERY, RANGE, MODE
+pub use signals::tick; // tells the time: answers nothing due, a try of the audio indication, or ended. NOLINE, CLOCK
 
 // The calls in modem relay by which messages go out; their contracts stand in `outgoing`.
-pub use outgoing::take; // takes a message for sending: answers its number
-pub use outgoing::send; // writes a held message, by its rank, as a packet
-pub use outgoing::empty; // writes an empty packet: acknowledgements and base news
-pub use outgoing::held; // reports how many messages of a channel are held unacknowledged
+pub use outgoing::take; // takes a message for sending: answers its number. NOLINE, MODE, CHANNEL, SIZE, SPENT, FULL
+pub use outgoing::send; // writes a held message, by its rank, as a packet: answers how many octets. NOLINE, MODE, CHANNEL, NOTHING, ROOM
+pub use outgoing::empty; // writes a packet with acknowledgements and base news alone: answers how many octets. NOLINE, MODE, CHANNEL, ROOM
+pub use outgoing::held; // reports how many messages of a channel are held unacknowledged. NOLINE, MODE, CHANNEL
 
 // The calls in modem relay by which messages come in; their contracts stand in `incoming`.
-pub use incoming::arrive; // a packet arrives: answers the line that its identifier says
-pub use incoming::hand_out; // hands out message R of a channel
+pub use incoming::arrive; // a packet arrives: answers its line. SHORT, FORM, NOLINE, TYPE, MODE, SHORT, CHANNEL, SIZE
+pub use incoming::hand_out; // hands out message R of a channel: answers how many octets. NOLINE, MODE, CHANNEL, SPENT, NOTHING, ROOM
 
 // What they leave: the book, and the answer to the call.
 pub use signals::Hears; // hear's answer is a `mode::Heard`
@@ -61,7 +62,7 @@ pub fn fresh() -> Book
     Book::fresh()
 }
 
-// Opens a line. Refuses BOOK, RANGE for the line, TAKEN for the line, RANGE for a setting, TAKEN for the identifier.
+// Opens a line. TAKEN for the line, RANGE for a setting, TAKEN for the identifier.
 pub fn open(book: Book, line: u8, settings: Settings, time: u64) -> Opened
     ensures { λ r. ⌜ ((store out : List ℕ) → made (openedSays (r .answer)) (r .book) store out ≡ did (call.opening line settings time) book store out) ⌝ }
 {
@@ -100,7 +101,7 @@ fn slip_of(l: Line) -> Slip
     }
 }
 
-// Closes a line and writes its slip of 12 octets. Refuses BOOK, RANGE for the line, NOLINE, ROOM for the output.
+// Closes a line and writes its slip: answers how many octets, which is 12. NOLINE, ROOM for the output.
 pub fn close(book: Book, line: u8, out: &mut [u8]) -> Gave
     ensures { λ r. ⌜ ((store : List ℕ) → made (writtenAnswer (r .answer)) (r .book) store (now (out .exit)) ≡ did (call.closing line) book store (now (out .entry))) ⌝ }
 {
