@@ -6,7 +6,8 @@ use mathlib.Core.Path.{_≡_, refl, sym, ap, _∙_}
 use mathlib.Core.List.{List, [], _∷_}
 use native.Mathlib.Omega.{arith}
 use lib.Dec.{lit≤, lit<}
-use lib.ListN.{getD, take, replicate}
+use lib.ListN.{length, drop, getD, replicate}
+use lib.Seq.{take-append-seam}
 use borrow.Author.Tests.{eqb-true}
 use Rattle.ground.specs.Refusal.{numberOf}
 use Rattle.ground.specs.Answer.{Answer}
@@ -17,7 +18,7 @@ use Rattle.connect.specs.Write.{connectOctets, sizeFields}
 use Rattle.connect.specs.declared.Connect.{Connect}
 use Rattle.breaks.specs.Break.{breakFits}
 use Rattle.breaks.specs.declared.Break.{Break}
-use Rattle.promise.specs.Build.{Left, Build}
+use Rattle.promise.specs.Build.{octetsLeft, Build}
 use Rattle.promise.specs.Demand2.{Demand2}
 use Rattle.promise.specs.Demand3.{Demand3}
 use Rattle.idle.specs.Idle.{refuser, constantBody}
@@ -41,14 +42,13 @@ refuser-opens-nothing r d =
     let n : numberOf r ≡ 0 = eqb-true _ _ e in
     omega (arith, n, number-some r)
 
--- two bodies cannot both be read from the one: of no build that writes the same body for every BREAK, or for every CONNECT
-pub constant-break-fails : (b : Build) (w : Left) → ((c : Break) (out : List ℕ) → b .breakWrite c out ≡ w) → Demand2 b → ⊥
+-- two bodies cannot both be read from the one: of no build that gives the same octets wherever it writes a BREAK, or a CONNECT
+pub constant-break-fails : (b : Build) (s : List ℕ) → ((c : Break) (out : List ℕ) → b .breakWrite c out .answer .number ≡ 0 → octetsLeft (b .breakWrite c out) ≡ s) → Demand2 b → ⊥
 unfolding breakFits
-constant-break-fails b w same d =
-    let read : Left → Answer = λ x. b .breakRead (take (getD (x .answer .values) 0 0) (x .out)) in
-    let one = d .break-back (from 0) two refl .reads in
-    let other = d .break-back (from 1) two refl .reads in
-    let e = sym one ∙ ap read (same (from 0) two ∙ sym (same (from 1) two)) ∙ other in
+constant-break-fails b s same d =
+    let one = d .break-back (from 0) two refl in
+    let other = d .break-back (from 1) two refl in
+    let e = sym (one .reads) ∙ ap (b .breakRead) (same (from 0) two (one .written) ∙ sym (same (from 1) two (other .written))) ∙ other .reads in
     let n : _≡_ {A = ℕ} 0 1 = ap (λ (a : Answer). getD (a .values) 0 0) e in
     omega (arith, n)
 
@@ -69,15 +69,15 @@ plain modulation =
       chardyn = false;
     }
 
-pub constant-connect-fails : (b : Build) (w : Left) → ((c : Connect) (out : List ℕ) → b .connectWrite c out ≡ w) → Demand2 b → ⊥
+pub constant-connect-fails : (b : Build) (s : List ℕ) → ((c : Connect) (out : List ℕ) → b .connectWrite c out .answer .number ≡ 0 → octetsLeft (b .connectWrite c out) ≡ s) → Demand2 b → ⊥
 unfolding numbersFit sizesFit connectOctets sizeFields
-constant-connect-fails b w same d =
-    let read : Left → Answer = λ x. b .connectRead (take (getD (x .answer .values) 0 0) (x .out)) in
-    let one = d .connect-back (plain 0) (replicate 8 0) refl .reads in
-    let other = d .connect-back (plain 1) (replicate 8 0) refl .reads in
-    let e = sym one ∙ ap read (same (plain 0) (replicate 8 0) ∙ sym (same (plain 1) (replicate 8 0))) ∙ other in
+constant-connect-fails b s same d =
+    let eight : List ℕ = replicate 8 0 in
+    let one = d .connect-back (plain 0) eight refl in
+    let other = d .connect-back (plain 1) eight refl in
+    let e = sym (one .reads) ∙ ap (b .connectRead) (same (plain 0) eight (one .written) ∙ sym (same (plain 1) eight (other .written))) ∙ other .reads in
     let n : _≡_ {A = ℕ} 0 1 = ap (λ (a : Answer). getD (a .values) 0 0) e in
     omega (arith, n)
 
-pub constant-body-fails : (w : Left) → Demand2 (constantBody w) → ⊥
-constant-body-fails w = constant-break-fails (constantBody w) w (λ c out. refl)
+pub constant-body-fails : (s : List ℕ) → Demand2 (constantBody s) → ⊥
+constant-body-fails s = constant-break-fails (constantBody s) s (λ c out e. take-append-seam s (drop (length s) out))

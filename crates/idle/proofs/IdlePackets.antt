@@ -36,7 +36,7 @@ use Rattle.order.specs.Order.{openTests, modeTests, lineFor, tests}
 use Rattle.did.specs.Did.{did, done, effect}
 use Rattle.laws.specs.Reached.{Turn, reach}
 use Rattle.laws.proofs.Identifiers.{reached-passes}
-use Rattle.promise.specs.Run.{Gateway, does, given, lineAt}
+use Rattle.promise.specs.Run.{Gateway, accepts, does, given, lineAt}
 use Rattle.promise.specs.Build.{Build}
 use Rattle.promise.specs.Demand2.{Ready, Demand2}
 use Rattle.promise.specs.Report.{heldFrom, Reports}
@@ -66,17 +66,17 @@ turns identifier = turn (call.opening 0 (named identifier) 0) ∷ turn (call.mod
 abbrev pub there : ℕ → Gateway
 there identifier = called (turns identifier)
 
--- the packets of two lines do not say the same: no build gives one packet s for all
-pub constant-packets-fail : (b : Build) (s : List ℕ) → ((g : Gateway) (out : List ℕ) → given (does (b .does) g (call.empty 0 0) out) ≡ s) → Demand2 b → ⊥
+-- the packets of two lines do not say the same: no build gives one packet s wherever it writes one
+pub constant-packets-fail : (b : Build) (s : List ℕ) → ((g : Gateway) (out : List ℕ) → accepts (does (b .does) g (call.empty 0 0) out) ≡ true → given (does (b .does) g (call.empty 0 0) out) ≡ s) → Demand2 b → ⊥
 unfolding reach did done effect tests lineFor openTests modeTests bookFits linesFit allSpan openIn lineFits member noTwice allSpans owedFits modesFit sendingFits receivingFits sizes.sizesFit every asking moved timed channelsFor steppedTo
 constant-packets-fail b s same d =
-    let one = d .empty-back (there 5) 0 (ready (turns 5) refl (lit≤ tt)) refl 0 (lit≤ tt) (replicate 12 0) (lit≤ tt) .1 .head-back in
-    let other = d .empty-back (there 6) 0 (ready (turns 6) refl (lit≤ tt)) refl 0 (lit≤ tt) (replicate 12 0) (lit≤ tt) .1 .head-back in
-    let n : _≡_ {A = ℕ} 5 6 = ap (λ (h : Head). h .identifier) (sym one ∙ ap headAt (same (there 5) (replicate 12 0) ∙ sym (same (there 6) (replicate 12 0))) ∙ other) in
+    let one = d .empty-back (there 5) 0 (ready (turns 5) refl (lit≤ tt)) refl 0 (lit≤ tt) (replicate 12 0) (lit≤ tt) in
+    let other = d .empty-back (there 6) 0 (ready (turns 6) refl (lit≤ tt)) refl 0 (lit≤ tt) (replicate 12 0) (lit≤ tt) in
+    let n : _≡_ {A = ℕ} 5 6 = ap (λ (h : Head). h .identifier) (sym (one .1 .head-back) ∙ ap headAt (same (there 5) (replicate 12 0) (one .0) ∙ sym (same (there 6) (replicate 12 0) (other .0))) ∙ other .1 .head-back) in
     omega (arith, n)
 
 pub constant-packet-fails : (s : List ℕ) → Demand2 (constantPacket s) → ⊥
-constant-packet-fails s = constant-packets-fail (constantPacket s) s (λ g out. take-append-seam s (drop (length s) out))
+constant-packet-fails s = constant-packets-fail (constantPacket s) s (λ g out e. take-append-seam s (drop (length s) out))
 
 -- of no message and of one the report says not the same
 pub made-up-fails : (n : ℕ) → Reports (madeUp n) → ⊥

@@ -28,10 +28,11 @@ refuser r =
       slipRead = λ s. refused r;
     }
 
--- "one giving a constant .. body", whatever it is
-abbrev pub constantBody : Left → Build
-constantBody w =
-    record { does = did; connectRead = ours .connectRead; connectWrite = λ c out. w; breakRead = ours .breakRead; breakWrite = λ c out. w; slipRead = ours .slipRead }
+-- "one giving a constant .. body": every body written is s
+abbrev pub constantBody : List ℕ → Build
+constantBody s =
+    let w : List ℕ → Left = λ out. record { answer = accepted (length s ∷ []); out = s ++ drop (length s) out } in
+    record { does = did; connectRead = ours .connectRead; connectWrite = λ c out. w out; breakRead = ours .breakRead; breakWrite = λ c out. w out; slipRead = ours .slipRead }
 
 -- ours, but for what the calls do
 abbrev pub doing : Does → Build

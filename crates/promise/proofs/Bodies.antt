@@ -28,6 +28,7 @@ use Rattle.breaks.specs.declared.Reading.the-variants as breakReading
 use Rattle.back.proofs.Breaks as breakBack
 use Rattle.slip.specs.Slip.{slipOctets}
 use Rattle.slip.specs.Slip as slip
+use Rattle.slip.specs.declared.Reading.the-variants as slipReading
 use Rattle.back.proofs.Slips as slipBack
 use Rattle.mode.specs.Moved.{ended}
 use Rattle.line.specs.declared.Line.{Line}
@@ -45,12 +46,14 @@ use Rattle.promise.proofs.Phases.{Sound, closed}
 use Rattle.promise.proofs.Own.{Passes, call-accepted, octets-given}
 
 -- what is written into an output is its first octets
-left-back : (v : Verdict) (octets out : List ℕ) (read : List ℕ → Answer) {says : Answer} → v ≡ Pass → read octets ≡ says → Back (leftBy v octets out) read says
-left-back Pass octets out read ok e = record { written = refl; reads = ap read (take-append-seam octets (drop (length octets) out)) ∙ e }
+left-back : (v : Verdict) (octets out : List ℕ) (read : List ℕ → Answer) {says : Answer} → v ≡ Pass → read octets ≡ says → Back (leftBy v octets out) octets read says
+left-back Pass octets out read ok e =
+    let s = take-append-seam octets (drop (length octets) out) in
+    record { written = refl; stands = s; reads = ap read s ∙ e }
 left-back (Refuse r) octets out read ok e = absurd (let z : _≡_ {A = ℕ} 0 1 = cc in omega arith)
 
 pub connect-written : (c : Connect) (out : List ℕ) → verdict (body.writeTests c (length out)) ≡ Pass
-    → Back (ours .connectWrite c out) (ours .connectRead) (connect.answerOf (connectReading.Says c))
+    → Back (ours .connectWrite c out) (connectOctets c) (ours .connectRead) (connect.answerOf (connectReading.Says c))
 connect-written c out ok =
     left-back (verdict (body.writeTests c (length out))) (connectOctets c) out (ours .connectRead) ok (ap connect.answerOf (connectBack.round c (length out) ok))
 
@@ -58,12 +61,15 @@ pub connect-read : (s : List ℕ) → verdict (connect.readTests s) ≡ Pass →
 connect-read s ok = ap (λ (v : Verdict). connect.answerOf (settle v connectReading.Refused (connectReading.Says (connectAt s)))) ok
 
 pub break-written : (c : Break) (out : List ℕ) → verdict (breaks.writeTests c (length out)) ≡ Pass
-    → Back (ours .breakWrite c out) (ours .breakRead) (breaks.answerOf (breakReading.Says c))
+    → Back (ours .breakWrite c out) (breakOctets c) (ours .breakRead) (breaks.answerOf (breakReading.Says c))
 break-written c out ok =
     left-back (verdict (breaks.writeTests c (length out))) (breakOctets c) out (ours .breakRead) ok (ap breaks.answerOf (breakBack.round c (length out) ok))
 
 pub break-read : (s : List ℕ) → verdict (breaks.readTests s) ≡ Pass → ours .breakRead s ≡ breaks.answerOf (breakReading.Says (breakAt s))
 break-read s ok = ap (λ (v : Verdict). breaks.answerOf (settle v breakReading.Refused (breakReading.Says (breakAt s)))) ok
+
+pub slip-read : (s : List ℕ) → verdict (slip.readTests s) ≡ Pass → ours .slipRead s ≡ slip.answerOf (slipReading.Says (slip.slipAt s))
+slip-read s ok = ap (λ (v : Verdict). slip.answerOf (settle v slipReading.Refused (slipReading.Says (slip.slipAt s)))) ok
 
 -- any line of a book that BOOK lets pass
 pub ready-sound : {g : Gateway} {i : ℕ} → Ready g i → Sound i 0 0 g nothingYet
@@ -87,6 +93,7 @@ module _ {g : Gateway} {i : ℕ} (r : Ready g i) (out : List ℕ) (room : 12 ≤
   written = octets-given (ready-sound r) (call.closing i) out refl close-passes (slipOctets (slipOf l)) refl refl
 
   pub slip-written : (accepts (does g (call.closing i) out) ≡ true)
+      × (given (does g (call.closing i) out) ≡ slipOctets (slipOf l))
       × (ours .slipRead (given (does g (call.closing i) out)) ≡ accepted (l .identifier ∷ l .kind ∷ l .receiving1 .next ∷ l .receiving2 .next ∷ bit (ended (l .modes)) ∷ []))
   unfolding slipOf
-  slip-written = (call-accepted g (call.closing i) out close-passes, ap (ours .slipRead) written ∙ ap slip.answerOf (slipBack.round (slipOf l) (length out) fitting))
+  slip-written = (call-accepted g (call.closing i) out close-passes, written, ap (ours .slipRead) written ∙ ap slip.answerOf (slipBack.round (slipOf l) (length out) fitting))

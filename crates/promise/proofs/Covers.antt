@@ -22,8 +22,8 @@ use Rattle.order.specs.Order.{tests, lineFor, fitBook, lineNumber, openTests}
 use Rattle.did.specs.Did.{effect}
 use Rattle.incoming.proofs.Passing.{addressed}
 use Rattle.promise.specs.Past.{Past, tookPast, handedPast, wrotePast, heardPast}
-use Rattle.promise.specs.Ours.{does, after, Adds}
-use Rattle.promise.specs.Run.{Gateway, accepts, given, lineAt, Relays, sentPacket, emptyPacket, Provided, refused, elsewhere, moded, reported, took, handed, sent, wrote, heard}
+use Rattle.promise.specs.Ours.{does, after, Provided, Adds}
+use Rattle.promise.specs.Run.{Gateway, accepts, given, lineAt, Relays, sentPacket, emptyPacket, refused, elsewhere, moded, reported, took, handed, sent, wrote, heard}
 use Rattle.promise.proofs.Phases.{Sound, is-open}
 use Rattle.promise.proofs.Own.{Passes, call-passes, line-left}
 
@@ -45,7 +45,7 @@ module _ {i identifier kind : ℕ} {g : Gateway} {p : Past} (s : Sound i identif
   Then c = (p′ : Past) × Adds i g p q out c p′
 
   -- a call that is accepted on the line
-  own-adds : (c : Call) → lineFor c (g .book) ≡ i → accepts (does g c out) ≡ true → lineAt (after g c out) i .opened ≡ true → Provided i g p q c → Then c
+  own-adds : (c : Call) → lineFor c (g .book) ≡ i → accepts (does g c out) ≡ true → lineAt (after g c out) i .opened ≡ true → Provided i g p q out c → Then c
   unfolding lineFor effect tests
   own-adds (call.opening k x time) m e still ok =
       absurd (subst (λ (n : ℕ). accepts (does g (call.opening n x time) out) ≡ true → ⊥) (sym m)
@@ -64,14 +64,14 @@ module _ {i identifier kind : ℕ} {g : Gateway} {p : Past} (s : Sound i identif
   own-adds (call.arrival x) m e still ok =
       let t = addressed (g .book) (length (g .store)) x (call-passes g (call.arrival x) out e) in
       let r : Relays g i = subst (Relays g) m (arrives-in (lineAt g (lineFor (call.arrival x) (g .book))) x (t .line)) in
-      let k = ok m r in
+      let k = ok e m in
       (heardPast p (k .0), heard x (k .0) m r (k .1))
   own-adds (call.handOut k channel) m e still ok =
       subst (λ (n : ℕ). accepts (does g (call.handOut n channel) out) ≡ true → Then (call.handOut n channel)) (sym m)
       (λ a. (handedPast p channel (given (does g (call.handOut i channel) out)), handed channel a)) e
   own-adds (call.report k channel) m e still ok = subst (λ (n : ℕ). Then (call.report n channel)) (sym m) (p, reported channel)
 
-  pub call-adds : (c : Call) → lineAt (after g c out) i .opened ≡ true → Provided i g p q c → Then c
+  pub call-adds : (c : Call) → lineAt (after g c out) i .opened ≡ true → Provided i g p q out c → Then c
   call-adds c still ok = by-test (accepts (does g c out)) (λ e. go e (ℕ-discrete (lineFor c (g .book)) i)) (λ e. (p, refused c e))
     where
       go : accepts (does g c out) ≡ true → Dec (lineFor c (g .book) ≡ i) → Then c

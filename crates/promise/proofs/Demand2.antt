@@ -6,6 +6,7 @@ use mathlib.Core.Bool.{true}
 use mathlib.Core.List.{List, [], _∷_}
 use native.Mathlib.Omega.{arith}
 use borrow.Author.Tests.{le-leb, eq-eqb}
+use Rattle.ground.specs.Answer.{Answer}
 use Rattle.ground.specs.Refusal.{verdict}
 use Rattle.ground.specs.declared.Verdict.the-variants.{Pass}
 use Rattle.ground.proofs.Verdicts.{passes}
@@ -32,7 +33,7 @@ use Rattle.promise.specs.Run.{Gateway, accepts, lineAt, Relays}
 use Rattle.promise.specs.Ours.{does, after}
 use Rattle.promise.specs.Demand2.{Ready, Gone, Demand2}
 use Rattle.promise.proofs.Aside.{stepped-modes}
-use Rattle.promise.proofs.Bodies.{connect-written, connect-read, break-written, break-read, slip-written}
+use Rattle.promise.proofs.Bodies.{connect-written, connect-read, break-written, break-read, slip-read, slip-written}
 use Rattle.promise.proofs.Packets.{sending-writes, empty-writes, arrival-entitled}
 
 -- S after an indication that is heard, and after a request
@@ -48,18 +49,21 @@ module _ {g : Gateway} {i : ℕ} (r : Ready g i) (a : Act) (out : List ℕ) wher
   abbrev m : Modes
   m = lineAt g i .modes
 
-  -- a mode call does what it does to the modes of its line
+  there : verdict (fitBook (g .book) ∷ lineNumber i ∷ isOpen (lineAt g i) ∷ []) ≡ Pass
+  there = passes (fitBook (g .book) ∷ lineNumber i ∷ isOpen (lineAt g i) ∷ []) (r .fits, (le-leb i 3 (omega (arith, r .small)), (r .opened, tt)))
+
+  -- a mode call does what it does to the modes of its line, and says what it says of them
   modes-left : lineAt (after g (call.mode i a) out) i .modes ≡ outcome m a .modes
   modes-left =
-      let there = passes (fitBook (g .book) ∷ lineNumber i ∷ isOpen (lineAt g i) ∷ []) (r .fits, (le-leb i 3 (omega (arith, r .small)), (r .opened, tt))) in
       let l = steppedTo (lineAt g i) (outcome m a .modes) (outcome m a .channels) in
       ap (λ (d : Did). lineOf (d .book) i .modes) (sym (moved-did (g .book) i a (g .store) out there))
       ∙ ap (λ (x : Line). x .modes) (line-same (g .book) (r .shaped) i (r .small) l) ∙ stepped-modes (lineAt g i) (outcome m a .modes) (outcome m a .channels)
 
+  answer-said : does g (call.mode i a) out .answer ≡ outcome m a .said
+  answer-said = ap (λ (d : Did). d .answer) (sym (moved-did (g .book) i a (g .store) out there))
+
   said : outcome m a .said .number ≡ 0 → accepts (does g (call.mode i a) out) ≡ true
-  said e =
-      let there = passes (fitBook (g .book) ∷ lineNumber i ∷ isOpen (lineAt g i) ∷ []) (r .fits, (le-leb i 3 (omega (arith, r .small)), (r .opened, tt))) in
-      eq-eqb _ _ (ap (λ (d : Did). d .answer .number) (sym (moved-did (g .book) i a (g .store) out there)) ∙ e)
+  said e = eq-eqb _ _ (ap (λ (x : Answer). x .number) answer-said ∙ e)
 
   -- "Leaving m, for any cause, ends relay for that opening"
   leaves : let n = lineAt (after g (call.mode i a) out) i .modes in (Relays g i → (n .local ≡ modem → ⊥) → Gone n) × (Gone m → Gone n)
@@ -99,10 +103,12 @@ ours-demand2 =
       connect-read = connect-read;
       break-back = break-written;
       break-read = break-read;
+      slip-read = slip-read;
       slip-back = λ g i r out room. slip-written r out room;
       sending-back = λ g i r inside channel v rank few out room. sending-writes r inside channel out v rank few room;
       empty-back = λ g i r inside channel c out room. empty-writes r inside channel out c room;
       inside = arrival-entitled;
+      moves = λ g i r a out. (answer-said r a out, modes-left r a out);
       hears = λ g i r k time e out. hears r k time e out;
       asks = λ g i r k time e out. asks r k time e out;
       leaves = λ g i r a out. leaves r a out;

@@ -22,10 +22,10 @@ use Rattle.did.specs.Did.{did, effect}
 use Rattle.laws.proofs.Own.{own-values}
 use Rattle.promise.specs.Build.{Does, ours}
 use Rattle.promise.specs.Past.{Packet, Past, tookPast, handedPast, wrotePast, heardPast}
-use Rattle.promise.specs.Run.{Gateway, accepts, lineAt, Relays, rankedMark, Honest, Provided, calls, stay, here, there}
+use Rattle.promise.specs.Run.{Gateway, accepts, lineAt, Relays, rankedMark, Honest, calls, stay, here, there}
 use Rattle.promise.specs.Run as runs
 use Rattle.promise.specs.Promise.{sendsBy, receivesBy, Carried, Promised, InRelay, AllCame, Ample}
-use Rattle.promise.specs.Ours.{does, after, Goes, Run, reportBy, HandsOut, AllOut, BothOut, CanFinish}
+use Rattle.promise.specs.Ours.{does, after, Provided, Goes, Run, reportBy, HandsOut, AllOut, BothOut, CanFinish}
 use Rattle.promise.specs.Demand3.{Serves, Served, Demand3}
 use Rattle.promise.proofs.Ends.{End, turn}
 use Rattle.promise.proofs.Phases.{is-open}
@@ -70,6 +70,7 @@ module _ {i j identifier kind : ℕ} {g h : Gateway} {p q : Past} (r : Run i j i
           in-order = in-order;
           counted = f .count;
           next = ap length (f .out) ∙ length-take-le (receivesBy h j q channel .R) (p .taken channel) (omega (arith, f .count, f .mid));
+          low = f .low;
           held = held-somewhere;
         }
 
@@ -112,7 +113,7 @@ module _ {i j identifier kind : ℕ} {g h : Gateway} {p q : Past} (r : Run i j i
     can-finish a b = finishes k a b channel v
 
   -- no call is left out of a run: at the open line whatever is called leads on, if it keeps the line open and in modem relay and no packet breaks the proviso
-  pub every-call : p .opened ≡ true → (c : Call) (out : List ℕ) → lineAt (after g c out) i .opened ≡ true → (Relays g i → Relays (after g c out) i) → Provided i g p q c
+  pub every-call : p .opened ≡ true → (c : Call) (out : List ℕ) → lineAt (after g c out) i .opened ≡ true → (Relays g i → Relays (after g c out) i) → Provided i g p q out c
       → (p′ : Past) × Run i j identifier kind (after g c out) p′ h q
   every-call o c out still stays ok =
       let d = call-adds (k .mine) o q out c still ok in

@@ -2,7 +2,7 @@
 -- Assumes nothing.
 use Prim.Native.Nat.{ℕ}
 use mathlib.Core.List.{List}
-use lib.ListN.{length}
+use lib.ListN.{length, take, getD}
 use Rattle.ground.specs.Answer.{Answer, writtenAnswer, contents}
 use Rattle.ground.specs.Refusal.{verdict, settle}
 use Rattle.ground.specs.declared.Verdict.{Verdict}
@@ -28,6 +28,10 @@ Does = Call → Book → List ℕ → List ℕ → Did
 pub record Left : Type 0 where
   pub answer : Answer
   pub out : List ℕ
+
+-- the octets that were written: as many as the answer says
+abbrev pub octetsLeft : Left → List ℕ
+octetsLeft w = take (getD (w .answer .values) 0 0) (w .out)
 
 pub record Build : Type 0 where
   pub does : Does

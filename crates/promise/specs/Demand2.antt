@@ -5,7 +5,7 @@ use Prim.Native.Nat.{ℕ, _%_, _≤_, _<_}
 use mathlib.Core.Path.{_≡_}
 use mathlib.Core.Bool.{true}
 use mathlib.Core.List.{List, [], _∷_}
-use lib.ListN.{length, take, getD}
+use lib.ListN.{length, getD}
 use Rattle.ground.specs.Answer.{Answer, accepted}
 use Rattle.ground.specs.Pick.{bit}
 use Rattle.ground.specs.Refusal.{verdict}
@@ -23,6 +23,8 @@ use Rattle.breaks.specs.Break.{breakAt}
 use Rattle.breaks.specs.Break as breaks
 use Rattle.breaks.specs.declared.Break.{Break}
 use Rattle.breaks.specs.declared.Reading.the-variants as breakReading
+use Rattle.slip.specs.Slip as slip
+use Rattle.slip.specs.declared.Reading.the-variants as slipReading
 use Rattle.channel.specs.Channel.{modulus}
 use Rattle.sending.specs.Sending.{heldCount}
 use Rattle.sending.specs.declared.Held.{Held}
@@ -31,7 +33,7 @@ use Rattle.mode.specs.Moved.{ended}
 use Rattle.mode.specs.Indication.{hearTests, heardMode}
 use Rattle.mode.specs.Request.{askTests}
 use Rattle.mode.specs.TableC2.{permitted}
-use Rattle.mode.specs.Acts.{Act, hear, ask}
+use Rattle.mode.specs.Acts.{Act, hear, ask, outcome}
 use Rattle.mode.specs.declared.Modes.{Modes}
 use Rattle.line.specs.Line.{sendingOf}
 use Rattle.line.specs.declared.Line.{Line}
@@ -43,14 +45,15 @@ use Rattle.laden.specs.Send.{ranked, heldIn}
 use Rattle.book.specs.Book.{bookFits}
 use Rattle.book.specs.Shape.{BookShaped}
 use Rattle.order.specs.Call as call
-use Rattle.did.specs.Did.{Did}
-use Rattle.promise.specs.Build.{Left, Build}
+use Rattle.did.specs.Did.{Did, slipOf}
+use Rattle.promise.specs.Build.{Left, octetsLeft, Build}
 use Rattle.promise.specs.Run.{Gateway, does, after, accepts, given, lineAt, Relays}
 
--- "What we write reads back as the values we wrote": the body is written, and what is written reads as the answer
-pub record Back (w : Left) (read : List ℕ → Answer) (says : Answer) : Type 0 where
+-- "What we write reads back as the values we wrote": the body is written, in these octets, and they read as the answer
+pub record Back (w : Left) (octets : List ℕ) (read : List ℕ → Answer) (says : Answer) : Type 0 where
   pub written : w .answer .number ≡ 0
-  pub reads : read (take (getD (w .answer .values) 0 0) (w .out)) ≡ says
+  pub stands : octetsLeft w ≡ octets
+  pub reads : read (octetsLeft w) ≡ says
 
 -- a packet: its octets, most significant first, and what they say
 pub record Says (s : List ℕ) (head : Head) (acks : Acks) (payload : List ℕ) : Type 0 where
@@ -93,14 +96,18 @@ Gone m = (m .left ≡ true) × (m .local ≡ modem → ⊥)
 
 pub record Demand2 (b : Build) : Type 0 where
   -- every body that may be written is, and reads back; every body that may be read says what stands at its places
-  pub connect-back : (c : Connect) (out : List ℕ) → verdict (body.writeTests c (length out)) ≡ Pass → Back (b .connectWrite c out) (b .connectRead) (connect.answerOf (connectReading.Says c))
+  pub connect-back : (c : Connect) (out : List ℕ) → verdict (body.writeTests c (length out)) ≡ Pass
+      → Back (b .connectWrite c out) (body.connectOctets c) (b .connectRead) (connect.answerOf (connectReading.Says c))
   pub connect-read : (s : List ℕ) → verdict (connect.readTests s) ≡ Pass → b .connectRead s ≡ connect.answerOf (connectReading.Says (connectAt s))
-  pub break-back : (c : Break) (out : List ℕ) → verdict (breaks.writeTests c (length out)) ≡ Pass → Back (b .breakWrite c out) (b .breakRead) (breaks.answerOf (breakReading.Says c))
+  pub break-back : (c : Break) (out : List ℕ) → verdict (breaks.writeTests c (length out)) ≡ Pass
+      → Back (b .breakWrite c out) (breaks.breakOctets c) (b .breakRead) (breaks.answerOf (breakReading.Says c))
   pub break-read : (s : List ℕ) → verdict (breaks.readTests s) ≡ Pass → b .breakRead s ≡ breaks.answerOf (breakReading.Says (breakAt s))
+  pub slip-read : (s : List ℕ) → verdict (slip.readTests s) ≡ Pass → b .slipRead s ≡ slip.answerOf (slipReading.Says (slip.slipAt s))
   -- "Closing writes a slip", and "Slips are also read back"
   pub slip-back : (g : Gateway) (i : ℕ) → Ready g i → (out : List ℕ) → 12 ≤ length out
       → let l = lineAt g i in
       (accepts (does (b .does) g (call.closing i) out) ≡ true)
+      × (given (does (b .does) g (call.closing i) out) ≡ slip.slipOctets (slipOf l))
       × (b .slipRead (given (does (b .does) g (call.closing i) out))
       ≡ accepted (l .identifier ∷ l .kind ∷ l .receiving1 .next ∷ l .receiving2 .next ∷ bit (ended (l .modes)) ∷ []))
   -- every message that the line holds is written, and so is an empty packet
@@ -113,6 +120,10 @@ pub record Demand2 (b : Build) : Type 0 where
   -- "No relay packet is accepted outside modem relay": the answer names the line
   pub inside : (g : Gateway) (s out : List ℕ) → accepts (does (b .does) g (call.arrival s) out) ≡ true
       → Entitled (lineAt g (getD (does (b .does) g (call.arrival s) out .answer .values) 0 0)) s
+  -- "media modes are those": a mode call says, and makes of the modes, what its sentences say, accepted or refused
+  pub moves : (g : Gateway) (i : ℕ) → Ready g i → (a : Act) (out : List ℕ)
+      → let o = outcome (lineAt g i .modes) a in
+      (does (b .does) g (call.mode i a) out .answer ≡ o .said) × (lineAt (after (b .does) g (call.mode i a) out) i .modes ≡ o .modes)
   -- an indication that may be heard is, S is what the paper chooses, and Table C.2 permits it; a request names S
   pub hears : (g : Gateway) (i : ℕ) → Ready g i → (k time : ℕ) → verdict (hearTests (lineAt g i .modes) k time) ≡ Pass → (out : List ℕ)
       → (accepts (does (b .does) g (call.mode i (hear k time)) out) ≡ true)

@@ -15,6 +15,9 @@ does = run.does did
 abbrev pub after : Gateway → Call → List ℕ → Gateway
 after = run.after did
 
+abbrev pub Provided : ℕ → Gateway → Past → Past → List ℕ → Call → Type 0
+Provided = run.Provided did
+
 abbrev pub Adds : ℕ → Gateway → Past → Past → List ℕ → Call → Past → Type 0
 Adds = run.Adds did
 

@@ -37,6 +37,8 @@ pub record Carried (channel : ℕ) (g : Gateway) (i : ℕ) (p : Past) (h : Gatew
   -- those still waiting are the messages from the next to hand out on
   pub counted : length (p .taken channel) ≡ sendsBy g i p channel .S
   pub next : length (q .handed channel) ≡ receivesBy h j q channel .R
+  -- the base that was heard is not past the next to hand out, so no waiting message lies below it
+  pub low : sendsBy g i p channel .h ≤ receivesBy h j q channel .R
   -- "Each waiting message is held at one end or the other": message n as it was taken
   pub held : (n : ℕ) → receivesBy h j q channel .R ≤ n → n < sendsBy g i p channel .S → Full (getD (p .taken channel) n [])
       × ((sendsBy g i p channel .held n ≡ getD (p .taken channel) n []) ⊎ (receivesBy h j q channel .stored n ≡ getD (p .taken channel) n []))

@@ -83,18 +83,6 @@ pub record Honest (p q : Past) (s : List ℕ) (k : Packet) : Type 0 where
   pub names : Each (Recent (p .taken)) (k .names)
   pub acks : Each (Recent (p .taken)) (k .acks)
 
--- "Provided that every packet arriving for the line" is such a packet: nothing is assumed of any other call.
-abbrev pub Provided : ℕ → Gateway → Past → Past → Call → Type 0
-Provided i g p q (call.arrival s) = lineFor (call.arrival s) (g .book) ≡ i → Relays g i → (k : Packet) × Honest p q s k
-Provided i g p q (call.opening _ s time) = Unit
-Provided i g p q (call.closing _) = Unit
-Provided i g p q (call.mode _ a) = Unit
-Provided i g p q (call.taking _ channel m) = Unit
-Provided i g p q (call.sending _ channel rank) = Unit
-Provided i g p q (call.empty _ channel) = Unit
-Provided i g p q (call.handOut _ channel) = Unit
-Provided i g p q (call.report _ channel) = Unit
-
 -- a gateway whose book is fresh
 abbrev pub freshWith : List ℕ → Gateway
 freshWith store = record { book = freshBook; store = store }
@@ -107,6 +95,18 @@ module _ (f : Does) where
   -- "their books and stores written by nothing else"
   abbrev pub after : Gateway → Call → List ℕ → Gateway
   after g c out = record { book = does g c out .book; store = does g c out .store }
+
+  -- "Provided that every packet arriving for the line" is such a packet: asked only of one that is let in there. Nothing is assumed of any other call.
+  abbrev pub Provided : ℕ → Gateway → Past → Past → List ℕ → Call → Type 0
+  Provided i g p q out (call.arrival s) = accepts (does g (call.arrival s) out) ≡ true → lineFor (call.arrival s) (g .book) ≡ i → (k : Packet) × Honest p q s k
+  Provided i g p q out (call.opening _ s time) = Unit
+  Provided i g p q out (call.closing _) = Unit
+  Provided i g p q out (call.mode _ a) = Unit
+  Provided i g p q out (call.taking _ channel m) = Unit
+  Provided i g p q out (call.sending _ channel rank) = Unit
+  Provided i g p q out (call.empty _ channel) = Unit
+  Provided i g p q out (call.handOut _ channel) = Unit
+  Provided i g p q out (call.report _ channel) = Unit
 
   -- What a call at line i of a gateway g adds to the past of the line; q is the peer's past.
   pub data Adds (i : ℕ) (g : Gateway) (p q : Past) (out : List ℕ) : Call → Past → Type 0 where

@@ -23,7 +23,7 @@ use Rattle.slip.specs.Slip.{slipRead, slipAt, slipFits, formFits, slipOctets}
 use Rattle.slip.specs.Slip as slip
 use Rattle.channel.specs.Channel.{windowOf}
 use Rattle.receiving.specs.Receiving.{arrivalOf, receivingFits}
-use Rattle.sending.specs.Sending.{takeTests, heardBase, sendingFits}
+use Rattle.sending.specs.Sending.{takeTests, heardBase, tookOne, sendingFits}
 use Rattle.receiving.specs.declared.Receiving.{Receiving}
 use Rattle.receiving.specs.declared.Arrival.the-variants.{Stored, Old}
 use Rattle.sending.specs.declared.Sending.{Sending}
@@ -34,7 +34,7 @@ use Rattle.mode.specs.Request.{asking}
 use Rattle.mode.specs.Recovery.{due, tickedModes, tickedAnswer, ticking}
 use Rattle.mode.specs.Acts.{ask, tick, Outcome, outcome, after}
 use Rattle.mode.proofs.Recovering.{recovery-begins, not-yet}
-use Rattle.places.specs.Places.{setOf}
+use Rattle.places.specs.Places.{setOf, bitOf}
 use lib.ListN.{replicate}
 use Rattle.ground.specs.Every.{every}
 use Rattle.channel.specs.Sizes as sizes
@@ -143,14 +143,14 @@ pub row-5-read : slip.answerOf (slipRead slip-five) ≡ accepted (5 ∷ 98 ∷ 3
 unfolding slipAt slipFits formFits bitsAt
 row-5-read = refl
 
--- 6. Channel 1, R = 16,380: number 27 is stored (d = 31); 28 is old. Whatever else the side holds
-module _ (first : ℕ) (sizes : List ℕ) where
+-- 6. Channel 1, R = 16,380: number 27 is stored (d = 31), its place being empty; 28 is old. Whatever else the side holds
+module _ (first mask : ℕ) (sizes : List ℕ) where
   abbrev at16380 : Receiving
-  at16380 = record { next = 16380; stored = setOf 0; first = first; sizes = sizes }
+  at16380 = record { next = 16380; stored = setOf mask; first = first; sizes = sizes }
 
-  pub row-6-stored : arrivalOf (windowOf 1) at16380 27 ≡ Stored 31
+  pub row-6-stored : bitOf mask 31 ≡ false → arrivalOf (windowOf 1) at16380 27 ≡ Stored 31
   unfolding arrivalOf
-  row-6-stored = refl
+  row-6-stored e = rw e
 
   pub row-6-old : arrivalOf (windowOf 1) at16380 28 ≡ Old
   unfolding arrivalOf
@@ -167,6 +167,11 @@ module _ (first mask : ℕ) (sizes : List ℕ) where
   pub row-7-taken : verdict (takeTests (windowOf 1) (heardBase (windowOf 1) taken32 1)) ≡ Pass
   unfolding heardBase
   row-7-taken = refl
+
+  -- "one": then it is FULL again
+  pub row-7-one : (size : ℕ) → verdict (takeTests (windowOf 1) (tookOne (windowOf 1) (heardBase (windowOf 1) taken32 1) size)) ≡ Refuse FULL
+  unfolding heardBase tookOne
+  row-7-one size = refl
 
 -- 8. Difference of 1,000 ms: no recovery; 1,001: try 1. Here of a line opened at 0 that asked for v at 5
 abbrev differs : Modes
