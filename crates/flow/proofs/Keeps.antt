@@ -123,16 +123,6 @@ module _ {w : ℕ} (s : Sending) (k : SendingOk w s) where
         narrow = k .narrow;
       }
 
-  pub heard-ok : (b : ℕ) → SendingOk w (heardBase w s b)
-  unfolding heardBase
-  heard-ok b =
-      let d = dist b (s .base) in
-      pick-by (SendingOk w) (ltb 0 d && leb d (underWay s)) (λ t. moved-ok d (leb-true _ _ (both-true (ltb 0 d) _ t .1))) (λ f. k)
-
-  pub acked-ok : (n : ℕ) → SendingOk w (ackedBy s n)
-  unfolding ackedBy
-  acked-ok n = pick-by (SendingOk w) (ltb (dist n (s .base)) (underWay s)) (λ t. dropped-ok (dist n (s .base))) (λ f. k)
-
 -- The steps of the receiving side, as facts.
 module _ {w : ℕ} (r : Receiving) (k : ReceivingOk w r) where
   pub stored-ok : (d size : ℕ) → d < w → ReceivingOk w (storedAt w r d size)

@@ -21,7 +21,6 @@ use ground::Verdict;
 use ground::Written;
 use line::Line;
 use line::Settings;
-use mode::Modes;
 use slip::Slip;
 
 // The mode calls; their contracts stand in `signals`.
@@ -87,7 +86,7 @@ pub fn open(book: Book, line: u8, settings: Settings, time: u64) -> Opened
 fn slip_of(l: Line) -> Slip
     ensures { λ r. ⌜ r ≡ slipOf l ⌝ }
 {
-    let reason = if Modes::TRIES < l.modes.tries {
+    let reason = if l.modes.ended() {
         Slip::ENDED
     } else {
         Slip::ASKED

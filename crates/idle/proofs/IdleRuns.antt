@@ -158,9 +158,6 @@ bothPast = tookPast (past skips) 1 (8 ∷ [])
 abbrev second : Packet
 second = sentPacket both bothPast 0 1 1 (does first both (call.sending 0 1 1) (room skips))
 
-abbrev secondPast : Past
-secondPast = wrotePast bothPast second
-
 abbrev skipped : Gateway
 skipped = after first (start skips) (call.arrival (second .octets)) []
 

@@ -54,10 +54,6 @@ says-passed : {h : Held} (v : Verdict) (k : Held) → settle v Refused (Message 
 says-passed Pass k e = (refl, cc)
 says-passed (Refuse r) k e = absurd (let z : _≡_ {A = ℕ} 0 1 = cc in omega arith)
 
-says-refused : {r : Refusal} (v : Verdict) (k : Held) → settle v Refused (Message k) ≡ Refused r → v ≡ Refuse r
-says-refused Pass k e = absurd (let z : _≡_ {A = ℕ} 0 1 = cc in omega arith)
-says-refused (Refuse s) k e = cc
-
 -- Each answer to the call.
 module _ (l : Line) (channel rank room : ℕ) where
   -- the tests of the message itself
@@ -91,10 +87,6 @@ module _ (l : Line) (channel rank room : ℕ) where
       send-may q = then ∙ ap (λ (k : Ranked). says (verdict (tested k)) k) found ∙ rw (le-leb (sentLength l h) room q)
 
   -- and what an answer says of the tests
-  pub may-refused : {r : Refusal} → maySend l channel rank room ≡ Refused r → verdict (sendTests l channel rank room) ≡ Refuse r
-  unfolding maySend
-  may-refused = says-refused (verdict (sendTests l channel rank room)) (heldIn (ranked l channel rank))
-
   pub may-passed : {h : Held} → maySend l channel rank room ≡ Message h → (verdict (sendTests l channel rank room) ≡ Pass) × (h ≡ heldIn (ranked l channel rank))
   unfolding maySend
   may-passed = says-passed (verdict (sendTests l channel rank room)) (heldIn (ranked l channel rank))

@@ -139,11 +139,11 @@ impl Line {
     fn idle(self) -> bool
         ensures { λ r. ⌜ r ≡ idle self ⌝ }
     {
-        (self.sending1.unacked.bits == 0)
-            & (self.sending2.unacked.bits == 0)
-            & (self.receiving1.stored.bits == 0)
-            & (self.receiving2.stored.bits == 0)
-            & (self.owed.count == 0)
+        let a = self.sending1.unacked.empty();
+        let b = self.sending2.unacked.empty();
+        let c = self.receiving1.stored.empty();
+        let d = self.receiving2.stored.empty();
+        a & b & c & d & (self.owed.count == 0)
     }
 
     // What BOOK asks of a line: nothing of a closed one.

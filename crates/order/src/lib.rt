@@ -11,6 +11,7 @@ use book::Book;
 use ground::Refusal;
 use ground::Verdict;
 use line::Settings;
+use store::Region;
 
 // May a packet arrive, and at which line? `address` answers it.
 pub enum MayArrive {
@@ -39,7 +40,7 @@ pub fn on_store(book: Book, store: usize) -> Verdict
     if !book.fits() {
         return Verdict::Refuse(Refusal::BOOK);
     }
-    if 42240 <= store {
+    if Region::LENGTH <= store {
         Verdict::Pass
     } else {
         Verdict::Refuse(Refusal::ROOM)

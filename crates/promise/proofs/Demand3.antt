@@ -123,10 +123,6 @@ module _ {i j identifier kind : ℕ} {g h : Gateway} {p q : Past} (r : Run i j i
   pub arrival-accepted : InRelay g i p → (s : List ℕ) (packet : Packet) → Honest p q s packet → (out : List ℕ) → accepts (does g (call.arrival s) out) ≡ true
   arrival-accepted a s packet honest out = call-accepted g (call.arrival s) out (arrival-tests (k .mine) (k .yours) (a .0) (k .joined) s packet (a .1) honest out)
 
-  -- and an empty packet is written where its header has room
-  pub empty-accepted : InRelay g i p → (channel : ℕ) → channel ≤ 2 → (out : List ℕ) → 12 ≤ length out → accepts (does g (call.empty i channel) out) ≡ true
-  empty-accepted a channel c out room = call-accepted g (call.empty i channel) out (empty-passes (k .mine) a (k .joined) out channel c room)
-
 -- "all can be handed out": on both channels
 pub both-out : {i j identifier kind : ℕ} {g h : Gateway} {p q : Past} → Run i j identifier kind g p h q → InRelay h j q → AllCame 1 g i p q → AllCame 2 g i p q
     → (outs : ℕ → List ℕ) → Ample outs → BothOut i j identifier kind g p h q

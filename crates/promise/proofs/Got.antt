@@ -130,16 +130,6 @@ module _ {e f : End} (channel room : ℕ) (pass : verdict (handCallTests (e .lin
   pub handed-is : got e channel .stored (r .next) ≡ handedOctets l (e .i) channel (e .store)
   handed-is = next-message (windowOf channel) (roomsOf (e .store) (e .i) way.Receiving channel) r (gets-ok (k .sides) channel .placed) there ∙ octets
 
-  -- and there is at least one
-  pub handed-full : Full (handedOctets l (e .i) channel (e .store))
-  handed-full =
-      let w = windowOf channel in
-      let rooms = roomsOf (e .store) (e .i) way.Receiving channel in
-      let ok = gets-ok (k .sides) channel in
-      let sized = receiving-sized w largest r (k .sides .receiving channel) in
-      let full = message-full w rooms (r .sizes) (maskOf (r .stored)) (r .first) largest (ok .placed) sized (rooms-roomy (e .store) (k .long) (e .i) (k .small) way.Receiving channel v) 0 (omega (arith, ok .placed)) there in
-      subst Full (ap (messageOf w rooms (r .sizes) (maskOf (r .stored)) (r .first)) (sym (sub-self (r .next))) ∙ handed-is) full
-
   side : got (afterHanding e channel) channel ≡ receives (windowOf channel) (roomsOf (e .store) (e .i) way.Receiving channel) (handedOut (windowOf channel) r)
   side = ap (receives (windowOf channel) (roomsOf (e .store) (e .i) way.Receiving channel)) (receiving-here l channel (handedOut (windowOf channel) r))
 

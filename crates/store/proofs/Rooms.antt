@@ -80,9 +80,6 @@ lies x s = go (x .channel) (s .low) (s .high)
 pub region-end : (x : Whose) → Served x → regionEnd (region x) ≤ 42240
 region-end x s = ⊎-elim (λ l. omega (arith, l .2, way-lt (x .way))) (λ l. omega (arith, l .2, way-lt (x .way))) (lies x s)
 
-pub room-in : (x : Whose) (p : ℕ) → Served x → p < region x .places → RoomIn (region x) p 42240
-room-in x p s l = record { placed = l; inside = region-end x s }
-
 same-way : (v w : Way) → wayNumber v ≡ wayNumber w → v ≡ w
 same-way Sending Sending e = refl
 same-way Sending Receiving e = absurd (omega arith)
