@@ -15,7 +15,7 @@ use Rattle.receiving.specs.declared.Arrival.{Arrival}
 use Rattle.receiving.specs.declared.Arrival.the-variants.{Stored, There, Old}
 use Rattle.mode.specs.Given.{modem}
 use Rattle.owed.specs.Owed.{entered}
-use Rattle.line.specs.Line.{sendingOf, withSending, receivingOf, withReceiving}
+use Rattle.line.specs.Line.{sendingOf, withSending, receivingOf, withReceiving, withOwed}
 use Rattle.line.specs.Fit.{lineFits}
 use Rattle.line.specs.declared.Line.{Line}
 use Rattle.store.specs.Store.{regionOf, roomAt}
@@ -44,17 +44,7 @@ ackedAll l (word ∷ words) = ackedAll (ackedLine l word) words
 
 -- "In all three cases the number enters the list of owed acknowledgements"
 abbrev pub owingLine : Line → ℕ → ℕ → Line
-owingLine l channel number = record {
-  opened = l .opened;
-  identifier = l .identifier;
-  kind = l .kind;
-  modes = l .modes;
-  sending1 = l .sending1;
-  sending2 = l .sending2;
-  receiving1 = l .receiving1;
-  receiving2 = l .receiving2;
-  owed = entered (l .owed) (wordOf channel number);
-}
+owingLine l channel number = withOwed l (entered (l .owed) (wordOf channel number))
 
 -- "Payload number n against the next to hand out R"
 abbrev pub arrivalAt : Line → ℕ → ℕ → Arrival

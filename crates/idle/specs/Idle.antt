@@ -8,6 +8,7 @@ use Rattle.ground.specs.Answer.{accepted, refused}
 use Rattle.ground.specs.Pick.{pick}
 use Rattle.ground.specs.declared.Refusal.{Refusal}
 use Rattle.packet.specs.Read.{headAt}
+use Rattle.line.specs.Line.{withSides}
 use Rattle.line.specs.declared.Line.{Line}
 use Rattle.book.specs.Book.{lineOf, withLine}
 use Rattle.book.specs.declared.Book.{Book}
@@ -82,18 +83,7 @@ storesNothing = doing (arriving loses)
 
 -- the line as the packet leaves it, but with nothing received
 abbrev pub unread : Line → Line → Line
-unread old new =
-    record {
-      opened = new .opened;
-      identifier = new .identifier;
-      kind = new .kind;
-      modes = new .modes;
-      sending1 = new .sending1;
-      sending2 = new .sending2;
-      receiving1 = old .receiving1;
-      receiving2 = old .receiving2;
-      owed = new .owed;
-    }
+unread old new = withSides new (new .sending1) (new .sending2) (old .receiving1) (old .receiving2)
 
 -- the packet's message is acknowledged and not stored
 abbrev pub ignored : Arrives

@@ -10,6 +10,7 @@ use Rattle.sending.specs.declared.Sending.{Sending}
 use Rattle.receiving.specs.declared.Receiving.{Receiving}
 use Rattle.mode.specs.Moved.{openedModes, closedModes}
 use Rattle.owed.specs.Owed.{freshOwed}
+use Rattle.owed.specs.declared.Owed.{Owed}
 use Rattle.line.specs.declared.Line.{Line}
 use Rattle.line.specs.declared.Settings.{Settings}
 
@@ -48,7 +49,7 @@ sendingOf l channel = pick (eqb channel 1) (l .sending1) (l .sending2)
 abbrev pub receivingOf : Line → ℕ → Receiving
 receivingOf l channel = pick (eqb channel 1) (l .receiving1) (l .receiving2)
 
--- the line with all its sides and what it owes anew
+-- the line with all its sides anew
 abbrev pub withSides : Line → Sending → Sending → Receiving → Receiving → Line
 withSides l s t q r = record {
   opened = l .opened;
@@ -60,6 +61,20 @@ withSides l s t q r = record {
   receiving1 = q;
   receiving2 = r;
   owed = l .owed;
+}
+
+-- the line with another owed list
+abbrev pub withOwed : Line → Owed → Line
+withOwed l o = record {
+  opened = l .opened;
+  identifier = l .identifier;
+  kind = l .kind;
+  modes = l .modes;
+  sending1 = l .sending1;
+  sending2 = l .sending2;
+  receiving1 = l .receiving1;
+  receiving2 = l .receiving2;
+  owed = o;
 }
 
 -- the line with one side anew

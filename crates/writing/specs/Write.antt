@@ -11,7 +11,7 @@ use Rattle.pack.specs.Write.{packetOctets}
 use Rattle.packet.specs.declared.Head.{Head}
 use Rattle.packet.specs.declared.Acks.{Acks}
 use Rattle.owed.specs.Owed.{firstThree, withoutThree}
-use Rattle.line.specs.Line.{receivingOf}
+use Rattle.line.specs.Line.{receivingOf, withOwed}
 use Rattle.line.specs.declared.Line.{Line}
 use Rattle.relay.specs.Asked.{insideTests}
 
@@ -21,17 +21,7 @@ acksFor l = let t = firstThree (l .owed) in record { count = t .count; first = t
 
 -- "and they leave the list"
 unfoldable pub wroteLine : Line → Line
-wroteLine l = record {
-  opened = l .opened;
-  identifier = l .identifier;
-  kind = l .kind;
-  modes = l .modes;
-  sending1 = l .sending1;
-  sending2 = l .sending2;
-  receiving1 = l .receiving1;
-  receiving2 = l .receiving2;
-  owed = withoutThree (l .owed);
-}
+wroteLine l = withOwed l (withoutThree (l .owed))
 
 -- "The base number in a packet on channel 1 or 2 is the writer's own next message to hand out on that channel"; on channel 0 it is 0
 unfoldable pub baseFor : Line → ℕ → ℕ
