@@ -48,7 +48,7 @@ sendingOf l channel = pick (eqb channel 1) (l .sending1) (l .sending2)
 abbrev pub receivingOf : Line → ℕ → Receiving
 receivingOf l channel = pick (eqb channel 1) (l .receiving1) (l .receiving2)
 
--- the line with all its sides and what it owes anew
+-- the line with all its sides anew
 abbrev pub withSides : Line → Sending → Sending → Receiving → Receiving → Line
 withSides l s t q r = record {
   opened = l .opened;
