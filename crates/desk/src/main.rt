@@ -1,5 +1,5 @@
 // The desk: it reads a script of calls on standard input, makes each call at one of two gateways, A and B, and writes one line
-// of answer for each. It decides nothing: it reads a line, makes the call, and writes what the call answered. The script's page
+// of answer for each. It decides nothing: it reads a line, makes the call, and writes what the call answered. docs/SCRIPT.md
 // says what a line may be.
 use book::Book;
 use script::Script;

@@ -1,5 +1,5 @@
 // The link between the gateways, with up to 512 packets under way. It loses one packet in eight, repeats one in sixteen, and
-// delays each by up to four turns, so that some overtake others.
+// delays each by one to four turns, and a repetition by one to eight, so that some overtake others.
 use crate::dice::Dice;
 use crate::tally;
 use crate::tally::Stream;
@@ -100,7 +100,7 @@ fn put(air: &mut [u8], notes: &mut [u64], tally: &mut [u64], octets: &[u8], pack
     set_note(notes, place, SERIAL, packet.serial);
 }
 
-// A packet that is in the air may be repeated.
+// A packet that is in the air may be repeated; the repetition is due in one to eight turns.
 fn repeat(
     air: &mut [u8],
     notes: &mut [u64],
@@ -124,7 +124,7 @@ fn repeat(
     put(air, notes, tally, octets, again);
 }
 
-// Sends a packet into the air, where it may be lost or repeated.
+// Sends a packet into the air, where it may be lost or repeated; it is due in one to four turns.
 pub fn launch(
     air: &mut [u8],
     notes: &mut [u64],

@@ -215,7 +215,7 @@ pub fn title(out: &mut [u8], seed: u64) {
     line(out, at);
     say(
         out,
-        b"It loses one packet in 8, repeats one in 16, and delays each by up to 4 turns of 3 seconds.",
+        b"It loses one packet in 8, repeats one in 16, and delays each by 1 to 4 turns of 3 seconds, a repetition by 1 to 8.",
     );
     say(out, b"");
 }

@@ -1,5 +1,5 @@
 // A set of places as a mask: place i is in it where bit i is set. It counts from the oldest message, so that moving on is a shift.
-// A window over 32 needs a wider mask, and that changes this file alone: contracts speak of the mask as a number.
+// Contracts speak of the mask as a number: a window over 32 needs a wider one here, and longer arrays of sizes in both sides.
 ghost use mathlib.Core.Path.{_≡_};
 ghost use Prim.Native.Nat.{_/_, _^_, _<_};
 ghost use lib.Dec.{eqb};

@@ -1,5 +1,5 @@
 -- What has become of a line at one gateway, as its calls told: the messages taken and handed out, and the packets written. A message is
--- counted by its full number: message n of a channel is the n-th taken there, from 0. A packet has only the last 14 bits of it.
+-- counted by its full number: message n of a channel is the n-th taken there, from 0. A packet carries only 14 bits of it.
 -- Assumes nothing.
 use Prim.Native.Nat.{ℕ, _%_}
 use mathlib.Core.Bool.{Bool, true, false, _&&_, _||_}
