@@ -5,13 +5,14 @@
 //! `bare`, the program's own work without a call; or `still` or `full`, COUNT refused calls on a book that holds nothing, or
 //! whose windows and owed lists are full.
 
+use second::channel::LARGEST;
 use second::gateway::Gateway;
 use second::line::Settings;
 use second::modes::Mode;
 use second::refusal::Refusal;
 
-const PACKET: usize = 144;
-const LARGEST: usize = 132;
+/// A packet's head, three acknowledgements and the largest message.
+const PACKET: usize = 12 + LARGEST;
 
 /// What was counted: messages that came as they were taken and their octets, and calls that were refused RANGE.
 #[derive(Default)]
