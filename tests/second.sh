@@ -1,5 +1,5 @@
 #!/usr/bin/env bash
-# The second implementation, written from the paper alone: it is built, and its own tests pass.
+# The second implementation, written from document 01 and docs/SCRIPT.md, not from the library's code: its own tests pass.
 set -u
 cd "$(dirname "$0")/../second" || exit 2
 . ../tests/cargo.bash

@@ -1,5 +1,5 @@
 //! Carries messages from one gateway to another and says how many came as they were taken: the same work as the library's
-//! program `carry`, so that the instructions of the two can be told apart. `bench/run` runs both.
+//! program `carry`, so that the instructions of the two can be told apart. `bench/run` runs both, and `tests/compare.sh` holds their lines together.
 //!
 //! `carry2 COUNT OCTETS WHAT`, where WHAT is `carry`, or `check`, the same with one refused call more before each call; or
 //! `bare`, the program's own work without a call; or `still` or `full`, COUNT refused calls on a book that holds nothing, or
