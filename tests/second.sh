@@ -3,7 +3,7 @@
 set -u
 cd "$(dirname "$0")/../second" || exit 2
 . ../tests/cargo.bash
-built=$(mktemp -d)
+built=$(mktemp -d) || exit 2
 CARGO_TARGET_DIR=$built cargo test --release --offline --quiet 2>&1 | tail -n 12
 status=${PIPESTATUS[0]}
 rm -rf "$built"
