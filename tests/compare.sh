@@ -1,36 +1,77 @@
 #!/usr/bin/env bash
-# The library held against the second implementation: both read the same generated scripts, and every answer must be the same.
+# The library held against the second implementation: both read the same generated scripts, and every answer must be the same;
+# both carry the same messages, and must say the same of them.
 # `tests/compare.sh` alone makes the gate's scripts, of fixed seeds; `tests/compare.sh FIRST LAST CALLS` those of the seeds named.
 set -u
 cd "$(dirname "$0")/.." || exit 2
 first=${1:-1}
 last=${2:-9}
 calls=${3:-25000}
+[ "$first" -le "$last" ] && [ "$calls" -gt 0 ] || { echo "no scripts are asked for"; exit 2; }
 log=$(mktemp -d) || exit 2
 trap 'rm -rf "$log"' EXIT
 . tests/cargo.bash
 (cd second && CARGO_TARGET_DIR=$log/built cargo build --release --offline --quiet) || exit 1
-rt check desk > "$log/check" 2>&1 || { tail -n 20 "$log/check"; echo "the desk is not built"; exit 1; }
+for program in desk carry; do
+    rt check "$program" > "$log/check" 2>&1 || { tail -n 20 "$log/check"; echo "$program is not built"; exit 1; }
+done
+second=$log/built/release
 bad=0
 answers=0
+fail() { echo "$1"; bad=1; }
 
-# held NAME SCRIPT: do both answer alike?
+# ran NAME OUTPUT COMMAND..: the command's output in a file; a command that does not end well is told.
+ran() {
+    local name=$1 output=$2 status
+    shift 2
+    "$@" > "$output"
+    status=$?
+    [ "$status" -eq 0 ] || fail "$name: $1 ended with status $status"
+}
+
+# same NAME: have the two said the same?
+same() {
+    cmp -s "$log/one" "$log/other" && return
+    fail "$1: differs"
+    diff "$log/one" "$log/other" | head -n 6
+}
+
+# held NAME SEED CALLS [KIND]: do both answer the script of that seed alike? One that is cut off would show little: the generator writes
+# a line for each call that it is asked for at the least, each of them has an answer, and behind the last one stands `end`.
 held() {
-    target/bin/desk < "$2" > "$log/one"
-    "$log/built/release/desk2" < "$2" > "$log/other"
-    answers=$((answers + $(wc -l < "$log/one") - 1))
-    if ! cmp -s "$log/one" "$log/other"; then
-        echo "$1: differs"
-        diff "$log/one" "$log/other" | head -n 6
-        bad=1
-    fi
+    local name=$1 asked=$3 given
+    shift
+    ran "$name" "$log/script" "$second/scripts" "$@"
+    ran "$name" "$log/one" target/bin/desk < "$log/script"
+    ran "$name" "$log/other" "$second/desk2" < "$log/script"
+    given=$(($(wc -l < "$log/one") - 1))
+    [ "$given" -ge "$asked" ] || fail "$name: $given answers, where $asked calls were asked for"
+    [ "$(tail -n 1 "$log/one")" = end ] || fail "$name: the answers do not end"
+    answers=$((answers + given))
+    same "$name"
+}
+
+# carried COUNT OCTETS WHAT: do both say the same of so many messages, and that all of them were carried where that is asked?
+carried() {
+    local name="carry $*" count='[0-9]*'
+    ran "$name" "$log/one" target/bin/carry "$@"
+    ran "$name" "$log/other" "$second/carry2" "$@"
+    same "$name"
+    case $3 in
+    carry | check) count=$1 ;;
+    esac
+    grep -q "^carried $count of $1 messages of $2 octets, " "$log/one" || fail "$name: $(cat "$log/one")"
 }
 
 for ((seed = first; seed <= last; seed++)); do
-    "$log/built/release/scripts" "$seed" "$calls" > "$log/script"
-    held "seed $seed" "$log/script"
+    held "seed $seed" "$seed" "$calls"
 done
-"$log/built/release/scripts" "$first" 80000 long > "$log/script"
-held "long, seed $first" "$log/script"
+held "long, seed $first" "$first" 80000 long
+# More messages than there are numbers.
+for what in carry check bare still full; do
+    for octets in 16 132; do
+        carried 17000 "$octets" "$what"
+    done
+done
 echo "$answers answers compared"
 exit "$bad"

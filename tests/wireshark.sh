@@ -4,6 +4,7 @@
 set -u
 cd "$(dirname "$0")/.." || exit 2
 if ! command -v tshark >/dev/null 2>&1 || ! command -v text2pcap >/dev/null 2>&1; then
+    echo "tshark is not there: installing the Debian package tshark"
     { apt-get update -q && DEBIAN_FRONTEND=noninteractive apt-get install -y -q --no-install-recommends tshark; } >/dev/null 2>&1 ||
         { echo "SKIPPED: tshark cannot be installed"; exit 77; }
 fi

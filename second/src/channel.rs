@@ -55,20 +55,6 @@ pub fn ahead(number: u16, from: u64) -> u64 {
     (u64::from(number) + MODULUS - from % MODULUS) % MODULUS
 }
 
-/// Puts a message under its full number.
-///
-/// A gateway with a store keeps it in the place that is the number modulo the window, so every message that is said to
-/// lie in that same place becomes this one. In an accepted book there is none; only spoiling can bring that about.
-pub fn put(messages: &mut Messages, channel: Channel, number: u64, octets: &[u8]) {
-    let place = number % channel.window();
-    for (other, shared) in messages.iter_mut() {
-        if other % channel.window() == place {
-            *shared = octets.to_vec();
-        }
-    }
-    messages.insert(number, octets.to_vec());
-}
-
 /// BOOK's rule for messages: each numbered from `first` up to and without `end`, each of 1 to 132 octets.
 pub fn lie_within(messages: &Messages, first: u64, end: u64) -> bool {
     messages.iter().all(|(&number, octets)| {

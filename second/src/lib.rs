@@ -1,4 +1,4 @@
-//! A second build of the modem-relay gateway, written from the paper and its readings alone.
+//! A second build of the modem-relay gateway, written from document 01 and `docs/SCRIPT.md`, not from the library's code.
 //!
 //! It exists to be held against the proved library: both read the same script and must write the same answers. So it
 //! shares nothing with the library, and it takes other means wherever there is a choice. Messages lie in maps under

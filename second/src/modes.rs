@@ -8,6 +8,8 @@ use crate::refusal::{require, Refusal};
 const PATIENCE: u64 = 1_000;
 /// After this try the next one due ends the line.
 const LAST_TRY: u8 = 5;
+/// The number that stands for an ended recovery.
+const ENDED: u8 = LAST_TRY + 1;
 
 /// A media mode in Table C.1's code.
 #[derive(Clone, Copy, Debug, PartialEq, Eq)]
@@ -78,7 +80,7 @@ impl Recovery {
         match number {
             0 => Recovery::None,
             1..=LAST_TRY => Recovery::Try(number),
-            6 => Recovery::Ended,
+            ENDED => Recovery::Ended,
             other => Recovery::Other(other),
         }
     }
@@ -87,7 +89,7 @@ impl Recovery {
         match self {
             Recovery::None => 0,
             Recovery::Try(number) | Recovery::Other(number) => number,
-            Recovery::Ended => 6,
+            Recovery::Ended => ENDED,
         }
     }
 }

@@ -1,6 +1,6 @@
 //! The receiving side of a channel: what was handed out, and what is stored ahead of that.
 
-use crate::channel::{ahead, lie_within, put, Channel, Messages, CAP};
+use crate::channel::{ahead, lie_within, Channel, Messages, CAP};
 
 #[derive(Clone, Debug)]
 pub struct Receiving {
@@ -25,13 +25,8 @@ impl Receiving {
         let distance = ahead(number, self.next);
         let full = self.next + distance;
         if distance < self.channel.window() && !self.stored.contains_key(&full) {
-            self.store(full, payload);
+            self.stored.insert(full, payload.to_vec());
         }
-    }
-
-    /// Stores a message under that number.
-    pub fn store(&mut self, number: u64, message: &[u8]) {
-        put(&mut self.stored, self.channel, number, message);
     }
 
     /// Message R, if it is here.

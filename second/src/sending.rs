@@ -1,6 +1,6 @@
 //! The sending side of a channel: what was taken, what the far end has handed out, and what is still held.
 
-use crate::channel::{ahead, lie_within, put, Channel, Messages, CAP};
+use crate::channel::{ahead, lie_within, Channel, Messages, CAP};
 use crate::refusal::{require, Refusal};
 
 #[derive(Clone, Debug)]
@@ -31,14 +31,9 @@ impl Sending {
             self.taken - self.base < self.channel.window(),
             Refusal::Full,
         )?;
-        self.hold(self.taken, message);
+        self.held.insert(self.taken, message.to_vec());
         self.taken += 1;
         Ok(())
-    }
-
-    /// Holds a message under that number.
-    pub fn hold(&mut self, number: u64, message: &[u8]) {
-        put(&mut self.held, self.channel, number, message);
     }
 
     /// A base was heard. One past the count taken says nothing; messages below it need no holding.

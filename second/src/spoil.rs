@@ -2,6 +2,7 @@
 //!
 //! `None` means that the line is no call: an unknown part, or a value that cannot be said at all.
 
+use crate::channel::{Channel, Messages, MODULUS};
 use crate::gateway::{Gateway, LINES};
 use crate::line::Line;
 use crate::modes::Recovery;
@@ -13,8 +14,6 @@ use crate::words::Words;
 const SPAN: u64 = 32;
 /// The most octets of a message that can be said, right or wrong.
 const SAYABLE: usize = 255;
-/// The last number of 14 bits.
-const LAST_NUMBER: u64 = 16_383;
 
 pub fn spoil(gateway: &mut Gateway, words: &mut Words) -> Option<()> {
     match words.word()? {
@@ -70,7 +69,7 @@ fn spoil_line(line: &mut Line, words: &mut Words) -> Option<()> {
 fn spoil_owed(line: &mut Line, words: &mut Words) -> Option<()> {
     let index = words.up_to(owed::MOST as u64 - 1)?;
     let channel = words.up_to(3)?;
-    let number = last(words, |words| words.up_to(LAST_NUMBER))?;
+    let number = last(words, |words| words.up_to(MODULUS - 1))?;
     let ack = (channel as u8, number as u16);
     line.owed.spoil_entry(index as usize, ack);
     Some(())
@@ -86,11 +85,11 @@ fn spoil_channel(line: &mut Line, part: &[u8], words: &mut Words) -> Option<()> 
     match part {
         b"held" if held_can_be_said => {
             let message = last(words, |words| words.octets(SAYABLE))?;
-            sending.hold(number, &message);
+            overwrite(&mut sending.held, channel, number, message);
         }
         b"stored" if stored_can_be_said => {
             let message = last(words, |words| words.octets(SAYABLE))?;
-            receiving.store(number, &message);
+            overwrite(&mut receiving.stored, channel, number, message);
         }
         b"dropped" if held_can_be_said => {
             words.end()?;
@@ -117,4 +116,19 @@ fn spoil_channel(line: &mut Line, part: &[u8], words: &mut Words) -> Option<()> 
         _ => return None,
     }
     Some(())
+}
+
+/// Puts a message under its number, and in the stead of those that are whole windows away from it.
+///
+/// On channel 2 the script can say messages that are 8, 16 or 24 apart, and its page has the later one overwrite the
+/// earlier, because one place of the store is both's. `send` and `out` show that once the later one is dropped. In a
+/// book that BOOK accepts no two messages are that far apart, so no other call needs this.
+fn overwrite(messages: &mut Messages, channel: Channel, number: u64, octets: Vec<u8>) {
+    let place = number % channel.window();
+    for (other, shared) in messages.iter_mut() {
+        if other % channel.window() == place {
+            shared.clone_from(&octets);
+        }
+    }
+    messages.insert(number, octets);
 }

@@ -1,17 +1,18 @@
 //! Carries messages from one gateway to another and says how many came as they were taken: the same work as the library's
-//! program `carry`, so that the instructions of the two can be told apart. `bench/run` runs both.
+//! program `carry`, so that the instructions of the two can be told apart. `bench/run` runs both, and `tests/compare.sh` holds their lines together.
 //!
 //! `carry2 COUNT OCTETS WHAT`, where WHAT is `carry`, or `check`, the same with one refused call more before each call; or
 //! `bare`, the program's own work without a call; or `still` or `full`, COUNT refused calls on a book that holds nothing, or
 //! whose windows and owed lists are full.
 
+use second::channel::LARGEST;
 use second::gateway::Gateway;
 use second::line::Settings;
 use second::modes::Mode;
 use second::refusal::Refusal;
 
-const PACKET: usize = 144;
-const LARGEST: usize = 132;
+/// A packet's head, three acknowledgements and the largest message.
+const PACKET: usize = 12 + LARGEST;
 
 /// What was counted: messages that came as they were taken and their octets, and calls that were refused RANGE.
 #[derive(Default)]

@@ -113,23 +113,35 @@ fn fill_window(pen: &mut Pen) {
     let scene = Scene::set(pen);
     let start = pen.random.pick(&[0, MODULUS - 4, CAP - 40]);
     start_at(pen, &scene.pair, scene.end, scene.channel, start);
-    for _ in 0..=scene.channel.window() {
-        pen.say(format!("{} 41", scene.call("take")));
-    }
+    take_often(pen, &scene, "41", scene.channel.window() + 1);
     for moved in [0, 1, 1, 3, 40] {
-        let base = pen
-            .sides(scene.end, scene.line(), scene.channel)
-            .sending
-            .base;
-        scene.arrive(pen, |craft| {
-            craft.base = carried(base + moved);
-            craft.payload.clear();
-        });
-        for _ in 0..=moved.min(4) {
-            pen.say(format!("{} 42", scene.call("take")));
-        }
+        hear_base(pen, &scene, moved);
+        take_often(pen, &scene, "42", moved.min(4) + 1);
         pen.say(scene.call("held"));
     }
+    send_edges(pen, &scene);
+}
+
+fn take_often(pen: &mut Pen, scene: &Scene, message: &str, times: u64) {
+    for _ in 0..times {
+        pen.say(format!("{} {message}", scene.call("take")));
+    }
+}
+
+/// An empty packet whose base lies so far ahead of the last one heard.
+fn hear_base(pen: &mut Pen, scene: &Scene, moved: u64) {
+    let base = pen
+        .sides(scene.end, scene.line(), scene.channel)
+        .sending
+        .base;
+    scene.arrive(pen, |craft| {
+        craft.base = carried(base + moved);
+        craft.payload.clear();
+    });
+}
+
+/// The first and the last rank that is held, and the first and the last that is not.
+fn send_edges(pen: &mut Pen, scene: &Scene) {
     let held = pen
         .sides(scene.end, scene.line(), scene.channel)
         .sending
@@ -215,7 +227,8 @@ fn receiving_edges(pen: &mut Pen) {
         .random
         .pick(&[0, 1, MODULUS - 4, MODULUS * 7 - 1, 40_000, CAP - 3, CAP]);
     start_at(pen, &scene.pair, scene.end.other(), scene.channel, next);
-    for distance in [window - 1, window, window + 1, 16_383, 8_192, 1, 1, 0, 0, 2] {
+    let (last, half) = (MODULUS - 1, MODULUS / 2);
+    for distance in [window - 1, window, window + 1, last, half, 1, 1, 0, 0, 2] {
         let octet = pen.random.octet();
         scene.arrive(pen, |craft| {
             craft.number = carried(next + distance);
@@ -239,13 +252,13 @@ fn sending_edges(pen: &mut Pen) {
         pen.say(format!("{} {octet:02X}", scene.call("take")));
     }
     for (moved, acknowledged) in [
-        (16_383, 16_383),
+        (MODULUS - 1, MODULUS - 1),
         (0, 6),
         (0, 5),
         (7, 2),
         (2, 1),
         (1, 2),
-        (2, 8_192),
+        (2, MODULUS / 2),
         (6, 5),
         (7, 0),
     ] {

@@ -2,7 +2,7 @@
 
 use super::pen::{End, Pen, CHANNELS};
 use crate::bits::Writer;
-use crate::channel::{carried, Channel};
+use crate::channel::{carried, Channel, MODULUS};
 use crate::packet::Ack;
 
 /// A packet's fields, each free to lie.
@@ -97,8 +97,16 @@ fn number_near(pen: &mut Pen, end: End, line: u8, channel: Channel) -> u16 {
     let next = pen.sides(end, line, channel).receiving.next;
     let window = channel.window();
     let inside = pen.random.below(window);
-    let far = pen.random.below(16_384);
-    let edges = [0, 1, window - 1, window, window + 1, 16_383, 8_192];
+    let far = pen.random.below(MODULUS);
+    let edges = [
+        0,
+        1,
+        window - 1,
+        window,
+        window + 1,
+        MODULUS - 1,
+        MODULUS / 2,
+    ];
     let distance = match pen.random.below(4) {
         0 => pen.random.pick(&edges),
         1 => far,
@@ -112,7 +120,9 @@ fn base_near(pen: &mut Pen, end: End, line: u8, channel: Channel) -> u16 {
     let sending = &pen.sides(end, line, channel).sending;
     let (base, open) = (sending.base, sending.taken.saturating_sub(sending.base));
     let inside = pen.random.below(open + 1);
-    let distance = pen.random.pick(&[0, 1, inside, open, open + 1, 16_383]);
+    let distance = pen
+        .random
+        .pick(&[0, 1, inside, open, open + 1, MODULUS - 1]);
     carried(base + distance)
 }
 
@@ -123,6 +133,6 @@ fn ack_near(pen: &mut Pen, end: End, line: u8) -> Ack {
     let inside = pen.random.below(open + 1);
     let distance = pen
         .random
-        .pick(&[0, inside, inside, open, open + 1, 16_383]);
+        .pick(&[0, inside, inside, open, open + 1, MODULUS - 1]);
     (channel.number(), carried(base + distance))
 }

@@ -1,5 +1,7 @@
 //! A small source of random numbers (splitmix64). The same seed gives the same numbers everywhere.
 
+use crate::channel::MODULUS;
+
 pub struct Random {
     state: u64,
 }
@@ -41,9 +43,9 @@ impl Random {
         self.below(256) as u8
     }
 
-    /// A number of 14 bits.
+    /// A message number as a packet carries it.
     pub fn number(&mut self) -> u16 {
-        self.below(16_384) as u16
+        self.below(MODULUS) as u16
     }
 
     pub fn octets(&mut self, count: u64) -> Vec<u8> {

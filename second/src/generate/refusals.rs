@@ -69,23 +69,33 @@ fn close_some(pen: &mut Pen, end: End, line: u8) {
 /// Gives the relay line something to hold, to store and to owe, and sometimes counts at the cap or a full window.
 fn load(pen: &mut Pen, end: End, line: u8) {
     for channel in CHANNELS {
-        let number = channel.number();
-        let count = CAP - pen.random.below(3);
-        if pen.random.chance(25) {
-            for part in ["taken", "base", "next"] {
-                pen.say(format!("{end} spoil {line} {part} {number} {count}"));
-            }
-        }
-        for _ in 0..pen.random.pick(&[0, 2, 5]) {
-            pen.say(format!("{end} take {line} {number} 4142"));
-        }
-        for _ in 0..pen.random.pick(&[0, 1, 4]) {
-            arrive(pen, end, line, channel);
-        }
-        let full = pen.sides(end, line, channel).sending.base + channel.window();
+        near_the_cap(pen, end, line, channel);
+        hold_and_store(pen, end, line, channel);
+        let (number, window) = (channel.number(), channel.window());
+        let full = pen.sides(end, line, channel).sending.base + window;
         if pen.random.chance(25) && full <= CAP {
             pen.say(format!("{end} spoil {line} taken {number} {full}"));
         }
+    }
+}
+
+/// One time in four sets all counts of a channel at the cap or just below it.
+fn near_the_cap(pen: &mut Pen, end: End, line: u8, channel: Channel) {
+    let number = channel.number();
+    let count = CAP - pen.random.below(3);
+    if pen.random.chance(25) {
+        for part in ["taken", "base", "next"] {
+            pen.say(format!("{end} spoil {line} {part} {number} {count}"));
+        }
+    }
+}
+
+fn hold_and_store(pen: &mut Pen, end: End, line: u8, channel: Channel) {
+    for _ in 0..pen.random.pick(&[0, 2, 5]) {
+        pen.say(format!("{end} take {line} {} 4142", channel.number()));
+    }
+    for _ in 0..pen.random.pick(&[0, 1, 4]) {
+        arrive(pen, end, line, channel);
     }
 }
 

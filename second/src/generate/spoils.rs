@@ -7,7 +7,7 @@ use super::pairs::{free_identifier, free_identifiers};
 use super::pen::{End, Pen};
 use super::refusals::set_stage;
 use crate::audit;
-use crate::channel::{Channel, CAP, MODULUS};
+use crate::channel::{carried, Channel, CAP, MODULUS};
 use crate::modes::Mode;
 use crate::words::hex;
 
@@ -154,7 +154,7 @@ fn set_owed(pen: &mut Pen, end: End, line: u8) {
     let first = pen.random.number();
     for index in 0..owing {
         let channel = 1 + index % 2;
-        let owed = (first + index) % 16_384;
+        let owed = carried(u64::from(first + index));
         pen.say(format!("{end} spoil {line} owed {index} {channel} {owed}"));
     }
     pen.say(format!("{end} spoil {line} owing {owing}"));
@@ -272,6 +272,11 @@ fn say_the_utmost(pen: &mut Pen, end: End, line: u8) {
             pen.say(format!("{end} spoil {line} {remove} {number} {full}"));
         }
     }
+    say_the_utmost_entries(pen, end, line);
+}
+
+/// The same for the entries of the two lists.
+fn say_the_utmost_entries(pen: &mut Pen, end: End, line: u8) {
     for owed in ["63 3 16383", "63 3 16384", "63 4 16383", "64 3 16383"] {
         pen.say(format!("{end} spoil {line} owed {owed}"));
     }

@@ -10,6 +10,25 @@ pub fn answers(script: &[u8]) -> Vec<String> {
     answers.lines().map(String::from).collect()
 }
 
+/// The lines that have an answer, with their numbers from 1: all but the blank ones and the comments. They are found otherwise
+/// than the desk does, from the whole script.
+pub fn answered_lines(script: &[u8]) -> Vec<(u64, &[u8])> {
+    let count = script.split(|&octet| octet == b'\n').count();
+    let mut lines = Vec::new();
+    for (index, line) in script.split(|&octet| octet == b'\n').enumerate() {
+        let ended = index + 1 < count;
+        let line = match line {
+            [line @ .., b'\r'] if ended => line,
+            _ => line,
+        };
+        let first = line.iter().find(|&&octet| octet != b' ' && octet != b'\t');
+        if matches!(first, Some(&octet) if octet != b'#') {
+            lines.push((index as u64 + 1, line));
+        }
+    }
+    lines
+}
+
 /// Each line is a call, and after `=>` its answer.
 pub fn holds(script: &str) {
     let mut calls = String::new();

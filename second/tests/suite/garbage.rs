@@ -1,6 +1,6 @@
 //! No script, however senseless, stops the desk; and how a script is cut into parts makes no difference.
 
-use crate::common::answers;
+use crate::common::{answered_lines, answers};
 use second::desk::Desk;
 
 /// Octets without sense, the same every time.
@@ -19,13 +19,15 @@ fn octets(seed: u64, count: usize) -> Vec<u8> {
 fn any_octets_are_answered() {
     for seed in 0..40 {
         let script = octets(seed, 5_000);
-        for answer in answers(&script) {
-            assert!(answer.starts_with("? "), "{answer}");
-        }
+        let wanted: Vec<String> = answered_lines(&script)
+            .iter()
+            .map(|(number, _)| format!("? {number}"))
+            .collect();
+        assert_eq!(answers(&script), wanted);
     }
 }
 
-/// Words of the script in any order.
+/// Words of the script in any order: each line with a word has one answer, in its turn, and of a line that is no call that says so.
 #[test]
 fn any_words_are_answered() {
     let words = [
@@ -80,13 +82,36 @@ fn any_words_are_answered() {
         "read",
         "write",
     ];
+    let mut calls = 0;
     for seed in 0..40 {
         let script: Vec<&str> = octets(seed, 8_000)
             .iter()
             .map(|&octet| words[usize::from(octet) % words.len()])
             .collect();
-        answers(script.join(" ").as_bytes());
+        let script = script.join(" ");
+        let lines = answered_lines(script.as_bytes());
+        let given = answers(script.as_bytes());
+        assert_eq!(given.len(), lines.len());
+        for ((number, line), answer) in lines.iter().zip(&given) {
+            assert!(fits(*number, line, answer), "{line:?}: {answer}");
+        }
+        calls += given
+            .iter()
+            .filter(|answer| !answer.starts_with('?'))
+            .count();
     }
+    assert!(calls > 0, "no line was a call");
+}
+
+/// Whether an answer may be that line's: `? N` with its own number, and where it begins with no call's word nothing else.
+fn fits(number: u64, line: &[u8], answer: &str) -> bool {
+    let text = String::from_utf8_lossy(line);
+    let first = text
+        .split(|part| part == ' ' || part == '\t')
+        .find(|word| !word.is_empty());
+    let may_be_call = matches!(first, Some("A" | "B" | "connect" | "break" | "slip"));
+    let accepted = answer == "ok" || answer.starts_with("ok ");
+    answer == format!("? {number}") || may_be_call && (accepted || answer.starts_with("no "))
 }
 
 #[test]
