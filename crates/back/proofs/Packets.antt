@@ -12,13 +12,13 @@ use borrow.Author.Tests.{ltb-true, leb-true, eqb-true, eqb-false, lt-ltb, le-ltb
 use Rattle.ground.specs.Pick.{allHold}
 use Rattle.ground.specs.Refusal.{verdict}
 use Rattle.ground.specs.declared.Verdict.the-variants.{Pass}
-use Rattle.ground.proofs.Picks.{each, pick-by, pick-lt, together}
+use Rattle.ground.proofs.Picks.{each, both-true, pick-by, pick-lt, together}
 use Rattle.ground.proofs.Verdicts.{Holds, passed, passes}
 use Rattle.ground.proofs.Settled.{settles-took}
 use Rattle.field.specs.Bits.{bitsAt}
 use Rattle.field.specs.Layout.{Field, octets, wordOctets, widths, join, packed, Reads}
 use Rattle.field.proofs.Packs.{Wide, pack-cut, reads-back, word-there}
-use Rattle.field.specs.Word.{channelOf}
+use Rattle.field.specs.Word.{channelOf, served}
 use Rattle.packet.specs.Acks.{ackList, named, blank, acksServed, acksBlank}
 use Rattle.packet.specs.Read.{headTests, listTests, headRead, acksRead, headAt, acksAt, ackAt, numberAt, baseAt, payloadOf, payloadFits, sizeFits, headerAt, countAt, channelAt}
 use Rattle.pack.specs.Write.{fixedFields, ackFields, layout, packetOctets, fieldsFit, numbersPlaced, writeTests}
@@ -36,8 +36,8 @@ served-wide n a b c e =
   where
     one : (k w : ℕ) → named n k w ≡ true → k < n → w < 2 ^ 16
     one k w h l =
-        let s : allHold (ltb 0 (channelOf w) ∷ ltb (channelOf w) 3 ∷ []) ≡ true = rw (lt-ltb k n l) at h in
-        let q : channelOf w < 3 = ltb-true _ _ (each (ltb 0 (channelOf w) ∷ ltb (channelOf w) 3 ∷ []) s .1 .0) in
+        let s : served w ≡ true = rw (lt-ltb k n l) at h in
+        let q : channelOf w ≤ 2 = leb-true _ _ (both-true (leb 1 (channelOf w)) (leb (channelOf w) 2) s .1) in
         omega arith
 
     go : (m : ℕ) → (0 < m → a < 2 ^ 16) → (1 < m → b < 2 ^ 16) → (2 < m → c < 2 ^ 16) → Wide (take m (a ∷ b ∷ c ∷ []))
@@ -56,15 +56,15 @@ module _ (h : Head) (a : Acks) (payload : List ℕ) (largest room : ℕ) (ok : v
   count : a .count ≤ 3
   count = fits-count h a (length payload) (tests .0)
 
-  served : acksServed a ≡ true
-  served = each (ltb (h .channel) 3 ∷ acksServed a ∷ []) (tests .1 .0) .1 .0
+  all-served : acksServed a ≡ true
+  all-served = each (ltb (h .channel) 3 ∷ acksServed a ∷ []) (tests .1 .0) .1 .0
 
   channel : h .channel < 3
   channel = ltb-true _ _ (each (ltb (h .channel) 3 ∷ acksServed a ∷ []) (tests .1 .0) .0)
 
   wide : Wide (ackList a)
   unfolding acksServed
-  wide = served-wide (a .count) (a .first) (a .second) (a .third) served
+  wide = served-wide (a .count) (a .first) (a .second) (a .third) all-served
 
   -- the packet in its parts: six octets, the list, the payload
   parts : s ≡ packed (fixedFields h (a .count)) ++ (wordOctets (ackList a) ++ payload)
@@ -164,7 +164,7 @@ module _ (h : Head) (a : Acks) (payload : List ℕ) (largest room : ℕ) (ok : v
   acks-round =
       let l : headerAt s ≤ length s = omega (arith, long, counted) in
       let c : channelAt s < 3 = omega (arith, own, channel) in
-      let f = together (ltb (channelAt s) 3 ∷ acksServed (acksAt s) ∷ []) (lt-ltb _ _ c, (ap acksServed acks-back ∙ served, tt)) in
+      let f = together (ltb (channelAt s) 3 ∷ acksServed (acksAt s) ∷ []) (lt-ltb _ _ c, (ap acksServed acks-back ∙ all-served, tt)) in
       sym (settles-took (verdict (listTests s)) acks.Refused (acks.Says (acksAt s)) refl (passes (listTests s) (le-leb _ _ l, (f, tt))) (ap acks.Says (sym acks-back)))
 
   -- the payload reads back, and is not too large

@@ -6,6 +6,7 @@ ghost use lib.ListN.{getD, set};
 ghost use lib.Seq.{sets};
 ghost use Rattle.field.specs.Bits.{bitsAt};
 ghost use Rattle.field.specs.Layout.{octets, wordOctets};
+ghost use Rattle.field.specs.Word.{served};
 
 // The octet at i.
 pub fn octet_at(s: &[u8], i: usize) -> u8
@@ -92,4 +93,12 @@ pub fn put_octets(out: &mut [u8], at: usize, src: &[u8])
         put_octet(out, at + i, src[i]);
         i += 1;
     }
+}
+
+// Does a word of channel and number name channel 1 or 2?
+pub fn served(word: u16) -> bool
+    ensures { λ r. ⌜ r ≡ served word ⌝ }
+{
+    let channel = word >> 14;
+    (1 <= channel) & (channel <= 2)
 }

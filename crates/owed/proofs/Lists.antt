@@ -12,7 +12,8 @@ use lib.ListN.{length, getD, set, take, drop, length-drop, length-take, take-app
 use lib.Seq.{paste, paste-suc, getD-drop, take-nil, take-take, take-suc, getD-take}
 use borrow.Author.Tests.{eqb-true, eqb-false, eq-eqb, ne-eqb}
 use Rattle.ground.proofs.Picks.{both-true, clash, and-false}
-use Rattle.owed.specs.Owed.{member, noTwice, allSpans, spanFits}
+use Rattle.field.specs.Word.{served}
+use Rattle.owed.specs.Owed.{member, noTwice, allSpans}
 
 -- what is left of the first n once k are gone
 pub drop-take : (k n : ℕ) (l : List ℕ) → drop k (take n l) ≡ take (n - k) (drop k l)
@@ -91,15 +92,15 @@ twice-front (x ∷ l) m e = go (member x l) refl (twice-front l m) e
 pub spans-append : (l m : List ℕ) → allSpans (l ++ m) ≡ (allSpans l && allSpans m)
 unfolding allSpans
 spans-append [] m = refl
-spans-append (x ∷ l) m = ap (λ (b : Bool). spanFits x && b) (spans-append l m) ∙ assoc (spanFits x) (allSpans l) (allSpans m)
+spans-append (x ∷ l) m = ap (λ (b : Bool). served x && b) (spans-append l m) ∙ assoc (served x) (allSpans l) (allSpans m)
   where
     assoc : (a b c : Bool) → (a && (b && c)) ≡ ((a && b) && c)
     assoc true b c = refl
     assoc false b c = refl
 
-pub spans-last : (x : ℕ) (l : List ℕ) → allSpans (l ++ (x ∷ [])) ≡ (allSpans l && spanFits x)
+pub spans-last : (x : ℕ) (l : List ℕ) → allSpans (l ++ (x ∷ [])) ≡ (allSpans l && served x)
 unfolding allSpans
-spans-last x l = spans-append l (x ∷ []) ∙ ap (λ (b : Bool). allSpans l && b) (last (spanFits x))
+spans-last x l = spans-append l (x ∷ []) ∙ ap (λ (b : Bool). allSpans l && b) (last (served x))
   where
     last : (a : Bool) → (a && true) ≡ a
     last true = refl
@@ -116,7 +117,7 @@ pub spans-rest : (k : ℕ) (l : List ℕ) → allSpans l ≡ true → allSpans (
 unfolding allSpans
 spans-rest zero l t = t
 spans-rest (suc k) [] t = t
-spans-rest (suc k) (x ∷ l) t = spans-rest k l (both-true (spanFits x) (allSpans l) t .1)
+spans-rest (suc k) (x ∷ l) t = spans-rest k l (both-true (served x) (allSpans l) t .1)
 
 -- a list is its front and the rest
 pub front : (i n : ℕ) (l : List ℕ) → i ≤ n → take n l ≡ take i l ++ drop i (take n l)
@@ -154,13 +155,13 @@ taken-past n i l h = List·getD-eq-default (take n l) 0 (omega (arith, length-ta
 
 -- A test of the first n elements of a list, one after the other.
 module _ (l : List ℕ) (i : ℕ) (k : i < length l) where
-  pub spans-on : allSpans (take i l) ≡ true → spanFits (getD l i 0) ≡ true → allSpans (take (i + 1) l) ≡ true
+  pub spans-on : allSpans (take i l) ≡ true → served (getD l i 0) ≡ true → allSpans (take (i + 1) l) ≡ true
   spans-on a b = rw (add-one i, take-suc l i 0 k, spans-last (getD l i 0) (take i l), a, b)
 
   pub once-on : noTwice (take i l) ≡ true → member (getD l i 0) (take i l) ≡ false → noTwice (take (i + 1) l) ≡ true
   once-on a b = rw (add-one i, take-suc l i 0 k, twice-last (getD l i 0) (take i l), a, b)
 
-  pub spans-lost : (n : ℕ) → i < n → spanFits (getD l i 0) ≡ false → allSpans (take n l) ≡ false
+  pub spans-lost : (n : ℕ) → i < n → served (getD l i 0) ≡ false → allSpans (take n l) ≡ false
   spans-lost n h e =
       rw (
         front (suc i) n l h,

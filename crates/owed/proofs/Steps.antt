@@ -12,8 +12,8 @@ use lib.ListN.{length, set, take, drop, length-drop, length-take, length-append,
 use lib.Seq.{paste, set-split, take-append-seam, length-take-le}
 use borrow.Author.Tests.{leb-true, leb-false, le-leb, lt-leb}
 use Rattle.ground.proofs.Picks.{both-true, pick-by, clash, and-false}
-use Rattle.field.specs.Word.{channelOf, numberOf, wordOf}
-use Rattle.owed.specs.Owed.{owedOf, withList, member, enters, entered, withoutThree, noTwice, allSpans, spanFits, owedFits, freshOwed}
+use Rattle.field.specs.Word.{channelOf, numberOf, wordOf, served}
+use Rattle.owed.specs.Owed.{owedOf, withList, member, enters, entered, withoutThree, noTwice, allSpans, owedFits, freshOwed}
 use Rattle.owed.specs.declared.Owed.{Owed}
 use Rattle.owed.proofs.Lists.{drop-take, twice-last, once-rest, spans-last, spans-rest}
 
@@ -128,7 +128,7 @@ neither : (a b : Bool) → (a || b) ≡ false → (a ≡ false) × (b ≡ false)
 neither true b e = clash (sym e)
 neither false b e = (refl, e)
 
-pub enter-keeps : (o : Owed) (word : ℕ) → owedFits o ≡ true → spanFits word ≡ true → owedFits (entered o word) ≡ true
+pub enter-keeps : (o : Owed) (word : ℕ) → owedFits o ≡ true → served word ≡ true → owedFits (entered o word) ≡ true
 unfolding entered enters
 enter-keeps o word t s =
     let k = owed-ok o t in
@@ -163,5 +163,5 @@ pub word-number : (channel number : ℕ) → number < 16384 → numberOf (wordOf
 word-number channel number l = omega arith
 
 -- the word of a channel that is served may enter
-pub word-span : (channel number : ℕ) → number < 16384 → 1 ≤ channel → channel ≤ 2 → spanFits (wordOf channel number) ≡ true
+pub word-span : (channel number : ℕ) → number < 16384 → 1 ≤ channel → channel ≤ 2 → served (wordOf channel number) ≡ true
 word-span channel number l a b = rw (word-channel channel number l, le-leb _ _ a, le-leb _ _ b)

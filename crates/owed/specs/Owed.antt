@@ -6,7 +6,7 @@ use mathlib.Core.List.{List, [], _∷_, _++_}
 use lib.Dec.{eqb, leb}
 use lib.ListN.{length, getD, take, drop, replicate}
 use Rattle.ground.specs.Pick.{pick}
-use Rattle.field.specs.Word.{channelOf}
+use Rattle.field.specs.Word.{served}
 use Rattle.owed.specs.declared.Owed.{Owed}
 use Rattle.owed.specs.declared.Three.{Three}
 
@@ -46,18 +46,15 @@ firstThree o = record {
 unfoldable pub withoutThree : Owed → Owed
 withoutThree o = withList o (drop 3 (owedOf o))
 
--- an entry is of channel 1 or 2
-abbrev pub spanFits : ℕ → Bool
-spanFits word = leb 1 (channelOf word) && leb (channelOf word) 2
-
 -- no word stands in the list twice
 unfoldable pub noTwice : List ℕ → Bool
 noTwice [] = true
 noTwice (x ∷ l) = not (member x l) && noTwice l
 
+-- every entry is of channel 1 or 2
 unfoldable pub allSpans : List ℕ → Bool
 allSpans [] = true
-allSpans (x ∷ l) = spanFits x && allSpans l
+allSpans (x ∷ l) = served x && allSpans l
 
 -- What BOOK asks: "over 64 owed numbers, or one twice"; an entry that is of no channel served is outside its span.
 unfoldable pub owedFits : Owed → Bool

@@ -4,7 +4,7 @@ ghost use mathlib.Core.Path.{_≡_};
 ghost use Prim.Native.Nat.{_≤_, _<_};
 ghost use lib.ListN.{getD, take};
 ghost use Rattle.field.specs.Word.{wordOf};
-ghost use Rattle.owed.specs.Owed.{freshOwed, owedOf, member, entered, firstThree, withoutThree, spanFits, owedFits};
+ghost use Rattle.owed.specs.Owed.{freshOwed, owedOf, member, entered, firstThree, withoutThree, owedFits};
 
 pub struct Owed {
     // The entries there are, oldest first, and behind them what is of no account.
@@ -133,7 +133,7 @@ impl Owed {
         let mut i = 0;
         while i < n {
             let word = self.numbers[i];
-            if !span_fits(word) {
+            if !field::served(word) {
                 return false;
             }
             if self.among(i, word) {
@@ -151,12 +151,4 @@ pub fn word(channel: u8, number: u16) -> u16
     ensures { λ r. ⌜ r ≡ wordOf channel number ⌝ }
 {
     ((channel as u16) << 14) | number
-}
-
-// Is an entry of channel 1 or 2?
-fn span_fits(word: u16) -> bool
-    ensures { λ r. ⌜ r ≡ spanFits word ⌝ }
-{
-    let channel = word >> 14;
-    (1 <= channel) & (channel <= 2)
 }

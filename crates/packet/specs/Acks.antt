@@ -6,16 +6,12 @@ use mathlib.Core.List.{List, [], _∷_}
 use lib.ListN.{take}
 use lib.Dec.{ltb, eqb}
 use Rattle.ground.specs.Pick.{pick, allHold}
-use Rattle.field.specs.Word.{channelOf}
+use Rattle.field.specs.Word.{served}
 use Rattle.packet.specs.declared.Acks.{Acks}
 
 -- the acknowledgements as a list
 abbrev pub ackList : Acks → List ℕ
 ackList a = take (a .count) (a .first ∷ a .second ∷ a .third ∷ [])
-
--- "acknowledgement .. not naming 1 or 2" is refused
-abbrev pub served : ℕ → Bool
-served w = allHold (ltb 0 (channelOf w) ∷ ltb (channelOf w) 3 ∷ [])
 
 -- of n acknowledgements the k-th, from 0, names a channel that is served, if it is there
 abbrev pub named : ℕ → ℕ → ℕ → Bool

@@ -4,7 +4,7 @@ ghost use mathlib.Core.Path.{_≡_};
 ghost use Prim.Native.Nat.{_<_};
 ghost use Rattle.ground.specs.Refusal.{verdict};
 ghost use Rattle.ground.specs.Answer.{Gives};
-ghost use Rattle.packet.specs.Acks.{served, named, acksServed};
+ghost use Rattle.packet.specs.Acks.{named, acksServed};
 ghost use Rattle.packet.specs.Read.{headTests, listTests, headAnswer, acksAnswer, headAt, acksAt, headerAt, channelAt, numberAt, baseAt, ackAt, sizeFits, payloadFits, formPlain};
 use ground::Refusal;
 use ground::Verdict;
@@ -152,17 +152,10 @@ fn acks_at(s: &[u8]) -> Acks
     }
 }
 
-fn ack_served(w: u16) -> bool
-    ensures { λ r. ⌜ r ≡ served w ⌝ }
-{
-    let channel = w >> 14;
-    (0 < channel) & (channel < 3)
-}
-
 fn ack_named(n: u8, k: u8, w: u16) -> bool
     ensures { λ r. ⌜ r ≡ named n k w ⌝ }
 {
-    if k < n { ack_served(w) } else { true }
+    if k < n { field::served(w) } else { true }
 }
 
 // Does each acknowledgement that is there name a channel that is served?

@@ -16,31 +16,23 @@ use Rattle.ground.specs.declared.Written.the-variants.{Wrote, Refused}
 use Rattle.ground.specs.declared.Verdict.the-variants.{Pass}
 use Rattle.ground.proofs.Picks.{each, together, both-true, pick-by, pick-lt}
 use Rattle.ground.proofs.Verdicts.{Holds, passed, passes}
-use Rattle.field.specs.Word.{channelOf}
-use Rattle.packet.specs.Acks.{served, named, blank, acksServed, acksBlank}
+use Rattle.field.specs.Word.{served}
+use Rattle.packet.specs.Acks.{named, blank, acksServed, acksBlank}
 use Rattle.packet.specs.Read.{sizeFits}
 use Rattle.pack.specs.Write.{packetOctets, numbersPlaced, fieldsFit, writeTests}
 use Rattle.pack.proofs.Writes.{packet-length}
-use Rattle.owed.specs.Owed.{owedOf, firstThree, spanFits, allSpans, owedFits}
+use Rattle.owed.specs.Owed.{owedOf, firstThree, allSpans, owedFits}
 use Rattle.owed.proofs.Steps.{owed-ok}
 use Rattle.line.specs.Fit.{largest, lineFits}
 use Rattle.line.specs.declared.Line.{Line}
 use Rattle.line.proofs.Keeps.{LineOk, line-ok}
 use Rattle.writing.specs.Write.{acksFor, baseFor, headFor, headerFor, emptyPacket, emptyTests}
 
--- an owed word names a channel that is served
-span-served : (w : ℕ) → spanFits w ≡ true → served w ≡ true
-span-served w e =
-    let b = both-true (leb 1 (channelOf w)) (leb (channelOf w) 2) e in
-    let low : 1 ≤ channelOf w = leb-true _ _ (b .0) in
-    let high : channelOf w ≤ 2 = leb-true _ _ (b .1) in
-    together (ltb 0 (channelOf w) ∷ ltb (channelOf w) 3 ∷ []) (lt-ltb 0 (channelOf w) (omega arith), (lt-ltb (channelOf w) 3 (omega arith), tt))
-
-spans-at : (ws : List ℕ) (k : ℕ) → allSpans ws ≡ true → k < length ws → spanFits (getD ws k 0) ≡ true
+spans-at : (ws : List ℕ) (k : ℕ) → allSpans ws ≡ true → k < length ws → served (getD ws k 0) ≡ true
 unfolding allSpans
 spans-at [] k e l = absurd (omega arith)
-spans-at (w ∷ ws) zero e l = both-true (spanFits w) (allSpans ws) e .0
-spans-at (w ∷ ws) (suc k) e l = spans-at ws k (both-true (spanFits w) (allSpans ws) e .1) (omega arith)
+spans-at (w ∷ ws) zero e l = both-true (served w) (allSpans ws) e .0
+spans-at (w ∷ ws) (suc k) e l = spans-at ws k (both-true (served w) (allSpans ws) e .1) (omega arith)
 
 -- the k-th of the first three, whether it is there or not
 module _ (ws : List ℕ) (k : ℕ) (few : k < 3) where
@@ -50,7 +42,7 @@ module _ (ws : List ℕ) (k : ℕ) (few : k < 3) where
       (λ l. let h : length ws ≤ k = omega arith in eq-eqb _ _ (List·getD-eq-default ws 0 h))
 
   named-at : allSpans ws ≡ true → named (min 3 (length ws)) k (getD ws k 0) ≡ true
-  named-at e = pick-lt (λ (t : Bool). t ≡ true) k (min 3 (length ws)) (λ l. span-served (getD ws k 0) (spans-at ws k e (omega arith))) (λ l. refl)
+  named-at e = pick-lt (λ (t : Bool). t ≡ true) k (min 3 (length ws)) (λ l. spans-at ws k e (omega arith)) (λ l. refl)
 
 module _ (l : Line) where
   abbrev ws : List ℕ

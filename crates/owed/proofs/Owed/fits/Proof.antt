@@ -37,8 +37,8 @@ mul-word c = omega arith
 element-copy-out-word : tie.Need-element-copy-out-word Inv-loop μ-loop
 element-copy-out-word c = omega arith
 
-span-fits-requires : tie.Need-span-fits-requires Inv-loop μ-loop
-span-fits-requires c κs = search needs
+served-requires : tie.Need-served-requires Inv-loop μ-loop
+served-requires c κs = search needs
 
 returns-2 : tie.Need-returns-2 Inv-loop μ-loop
 returns-2 c =
@@ -47,7 +47,7 @@ returns-2 c =
     let l = s .before .loop in
     let len : length (o .numbers) ≡ 64 = search needs in
     sym (fits-span o (spans-lost (o .numbers) (l .i) (omega arith) (o .count) (omega arith)
-    (sym (c .before .span-fits .ensures) ∙ not-true _ (c .if2 .taken))))
+    (sym (c .before .served .ensures) ∙ not-true _ (c .if2 .taken))))
 
 among-requires : tie.Need-among-requires Inv-loop μ-loop
 among-requires c κs = omega arith
@@ -74,7 +74,7 @@ loop-again c =
     let len : length (o .numbers) ≡ 64 = search needs in (
       omega arith,
       spans-on (o .numbers) (l .i) (omega arith) (l .inv .1)
-          (sym (c .before .before .before .span-fits .ensures) ∙ not-false _ (c .before .before .if2 .left)),
+          (sym (c .before .before .before .served .ensures) ∙ not-false _ (c .before .before .if2 .left)),
       once-on (o .numbers) (l .i) (omega arith) (l .inv .2) (sym (c .before .among .ensures) ∙ c .if3 .left),
     )
 
@@ -96,7 +96,7 @@ fits-spec =
     loop-holds
     mul-word
     element-copy-out-word
-    span-fits-requires
+    served-requires
     returns-2
     among-requires
     returns-3
