@@ -5,7 +5,7 @@
 set -u
 cd "$(dirname "$0")/.." || exit 2
 inner="places channel sending receiving owed resting store line relay writing laden effect arriving book order admit address"
-programs="digits words desk night carry"
+programs="digits words desk night carry first"
 crates=$(sed -n 's/^\([a-z0-9_]*\):.*/\1/p' crates.txt)
 [ -n "$crates" ] || { echo "crates.txt lists nothing"; exit 1; }
 bad=0
