@@ -20,18 +20,9 @@ fn with_modes(l: Line, modes: Modes, good: bool) -> Spoilt {
     }
 }
 
-// `opened`, `vbd`, `relay` and `left`: a flag.
-fn flagged(l: Line, name: &[u8], s: &[u8], at: usize) -> Spoilt {
-    let mut none = [0u8; 1];
-    let asked = words::read(s, at, b"f", &mut none);
-    let value = asked.flag(0);
+// `vbd`, `relay` and `left`: a flag of the modes.
+fn marked(l: Line, name: &[u8], value: bool, good: bool) -> Spoilt {
     let modes = l.modes;
-    if words::same(name, b"opened") {
-        return Spoilt {
-            line: Line { opened: value, ..l },
-            good: asked.good,
-        };
-    }
     if words::same(name, b"vbd") {
         return with_modes(
             l,
@@ -39,7 +30,7 @@ fn flagged(l: Line, name: &[u8], s: &[u8], at: usize) -> Spoilt {
                 vbd: value,
                 ..modes
             },
-            asked.good,
+            good,
         );
     }
     if words::same(name, b"relay") {
@@ -49,7 +40,7 @@ fn flagged(l: Line, name: &[u8], s: &[u8], at: usize) -> Spoilt {
                 relay: value,
                 ..modes
             },
-            asked.good,
+            good,
         );
     }
     if words::same(name, b"left") {
@@ -59,13 +50,27 @@ fn flagged(l: Line, name: &[u8], s: &[u8], at: usize) -> Spoilt {
                 left: value,
                 ..modes
             },
-            asked.good,
+            good,
         );
     }
     Spoilt {
         line: l,
         good: false,
     }
+}
+
+// `opened`, or a flag of the modes.
+fn flagged(l: Line, name: &[u8], s: &[u8], at: usize) -> Spoilt {
+    let mut none = [0u8; 1];
+    let asked = words::read(s, at, b"f", &mut none);
+    let value = asked.flag(0);
+    if words::same(name, b"opened") {
+        return Spoilt {
+            line: Line { opened: value, ..l },
+            good: asked.good,
+        };
+    }
+    marked(l, name, value, asked.good)
 }
 
 // `id`, `type` and `try`: a number of 8 bits.

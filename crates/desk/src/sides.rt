@@ -32,46 +32,61 @@ fn past(oldest: u32, number: u32) -> u32
     number - oldest
 }
 
-// `taken`, `base` and `next`: S; h, and nothing is held; R, and nothing is stored.
+// S is another.
+fn with_taken(l: Line, channel: u8, taken: u32) -> Line {
+    let side = l.sending(channel);
+    l.with_sending(channel, Sending { taken, ..side })
+}
+
+// h is another, and nothing is held.
+fn with_base(l: Line, channel: u8, base: u32) -> Line {
+    let side = l.sending(channel);
+    let unacked = Places::none();
+    let first = less(channel, base);
+    let next = Sending {
+        base,
+        unacked,
+        first,
+        ..side
+    };
+    l.with_sending(channel, next)
+}
+
+// R is another, and nothing is stored.
+fn with_next(l: Line, channel: u8, count: u32) -> Line {
+    let side = l.receiving(channel);
+    let stored = Places::none();
+    let first = less(channel, count);
+    let next = Receiving {
+        next: count,
+        stored,
+        first,
+        ..side
+    };
+    l.with_receiving(channel, next)
+}
+
+// `taken`, `base` and `next`: S, h and R.
 fn counted(l: Line, name: &[u8], s: &[u8], at: usize) -> Spoilt {
     let mut no_octets = [0u8; 1];
     let asked = words::read(s, at, b"cd", &mut no_octets);
     let channel = asked.octet(0);
     let count = asked.full(1);
-    let none = Places::none();
-    let sending = l.sending(channel);
-    let receiving = l.receiving(channel);
     if words::same(name, b"taken") {
-        let side = Sending {
-            taken: count,
-            ..sending
-        };
         return Spoilt {
-            line: l.with_sending(channel, side),
+            line: with_taken(l, channel, count),
             good: asked.good,
         };
     }
     if words::same(name, b"base") {
-        let side = Sending {
-            base: count,
-            unacked: none,
-            first: less(channel, count),
-            ..sending
-        };
         return Spoilt {
-            line: l.with_sending(channel, side),
+            line: with_base(l, channel, count),
             good: asked.good,
         };
     }
     if words::same(name, b"next") {
-        let side = Receiving {
-            next: count,
-            stored: none,
-            first: less(channel, count),
-            ..receiving
-        };
         return Spoilt {
-            line: l.with_receiving(channel, side),
+            line: with_next(l, channel, count),
             good: asked.good,
         };
     }
