@@ -13,6 +13,6 @@ numberOf w = w % 2 ^ 14
 abbrev pub wordOf : ℕ → ℕ → ℕ
 wordOf channel number = channel * 2 ^ 14 + number
 
--- an acknowledgement names channel 1 or 2: any other is refused in a packet, and is never owed
+-- CHANNEL: "acknowledgement .. not naming 1 or 2"; what is owed names one of them too
 abbrev pub served : ℕ → Bool
 served w = leb 1 (channelOf w) && leb (channelOf w) 2
