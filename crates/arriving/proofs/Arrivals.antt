@@ -28,9 +28,9 @@ use Rattle.line.specs.Fit.{largest, lineFits}
 use Rattle.line.specs.declared.Line.{Line}
 use Rattle.relay.specs.Asked.{reliable}
 use Rattle.arriving.proofs.Stays.{news-store}
-use Rattle.effect.specs.Effect.{Relaying, heardLine, storedLine, storedStore}
+use Rattle.arriving.specs.Effect.{Relaying, heardLine, storedLine, storedStore}
 use Rattle.arriving.specs.Arrive.{arriveTests, newsLine, arrivedLine, arrivedStore}
-use Rattle.effect.proofs.Effects.{heard-relaying, all-relaying}
+use Rattle.arriving.proofs.Effects.{heard-relaying, all-relaying}
 
 pub news-relaying : (l : Line) → Relaying l → (s : List ℕ) → Relaying (newsLine l s)
 unfolding newsLine

@@ -37,12 +37,12 @@ use Rattle.store.specs.Store.{regionOf, roomAt}
 use Rattle.store.specs.declared.Region.{Region}
 use Rattle.store.specs.declared.Way.the-variants as way
 use Rattle.relay.specs.Asked.{reliable}
-use Rattle.effect.specs.Effect.{Relaying, heardLine, ackedLine, ackedAll, owingLine, arrivalAt, storedLine, putAs, storedStore}
+use Rattle.arriving.specs.Effect.{Relaying, heardLine, ackedLine, ackedAll, owingLine, arrivalAt, storedLine, putAs, storedStore}
 use Rattle.arriving.specs.Arrive.{arriveTests, newsLine, carries, arrivedLine, arrivedStore}
-use Rattle.effect.proofs.Stays.{stored-stays}
+use Rattle.arriving.proofs.StepsStay.{stored-stays}
 use Rattle.channel.proofs.Windows.{window-narrow}
 use Rattle.relay.proofs.Lines.{channel-span}
-use Rattle.effect.proofs.Effects.{ok}
+use Rattle.arriving.proofs.Effects.{ok}
 use Rattle.arriving.proofs.Arrivals.{news-relaying, number-lt, arrive-relaying, arrive-size, arrive-reliable}
 
 -- no step changes how many sizes a side has

@@ -16,9 +16,9 @@ use Rattle.line.specs.Line.{receivingOf}
 use Rattle.line.specs.declared.Line.{Line}
 use Rattle.store.specs.Store.{regionOf}
 use Rattle.store.specs.declared.Way.the-variants as way
-use Rattle.effect.specs.Effect.{heardLine, putAs, storedStore}
+use Rattle.arriving.specs.Effect.{heardLine, putAs, storedStore}
 use Rattle.arriving.specs.Arrive.{newsLine, carries, arrivedLine}
-use Rattle.effect.proofs.Stays.{Stays, NewsOnly, then-stays, then-news, heard-news, stored-stays, all-news}
+use Rattle.arriving.proofs.StepsStay.{Stays, NewsOnly, then-stays, then-news, heard-news, stored-stays, all-news}
 
 module _ (l : Line) (s : List ℕ) where
   pub news-only : NewsOnly l (newsLine l s)

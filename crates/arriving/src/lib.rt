@@ -17,6 +17,8 @@ use mode::Modes;
 use packet::AcksRead;
 use packet::HeadRead;
 
+mod effect; // effect.rt: what a base, an acknowledgement and a payload do
+
 // The packet's payload type.
 fn kind_at(s: &[u8]) -> u8
     ensures { λ r. ⌜ r ≡ headAt (now (s .entry)) .kind ⌝ }

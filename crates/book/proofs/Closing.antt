@@ -5,8 +5,8 @@ use mathlib.Core.Path.{_≡_, sym, ap, _∙_}
 use mathlib.Core.List.{List}
 use lib.ListN.{length, getD, set, drop}
 use lib.Seq.{take-append-seam}
-use Rattle.resting.specs.Rest.{rests, restedIn}
-use Rattle.resting.proofs.Resting.{rests-count}
+use Rattle.book.specs.Resting.{rests, restedIn}
+use Rattle.book.proofs.RestingLists.{rests-count}
 use Rattle.line.specs.Line.{closedLine}
 use Rattle.line.specs.declared.Line.{Line}
 use Rattle.book.specs.declared.Book.{Book}

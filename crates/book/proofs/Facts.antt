@@ -11,10 +11,10 @@ use lib.ListN.{length, getD, List·getD-eq-default}
 use borrow.Author.Tests.{leb-true, le-leb}
 use Rattle.ground.proofs.Picks.{both-true, each, pick-by}
 use Rattle.owed.specs.Owed.{noTwice}
-use Rattle.resting.specs.Rest.{allSpan}
-use Rattle.resting.specs.Marks.{newIn, marked, none}
-use Rattle.resting.proofs.Spans.{span-append}
-use Rattle.resting.proofs.Once.{new-append, new-once}
+use Rattle.book.specs.Resting.{allSpan}
+use Rattle.book.specs.Marks.{newIn, marked, none}
+use Rattle.book.proofs.Spans.{span-append}
+use Rattle.book.proofs.Once.{new-append, new-once}
 use Rattle.line.specs.Line.{closedLine}
 use Rattle.line.specs.Fit.{lineFits}
 use Rattle.line.specs.declared.Line.{Line}

@@ -8,8 +8,8 @@ use Rattle.line.specs.Fit.{lineFits}
 use Rattle.line.proofs.Shape.{closed-shaped}
 use Rattle.book.specs.Book.{freshBook, openIn, linesFit, bookFits}
 use Rattle.book.specs.Shape.{BookShaped}
-use Rattle.resting.specs.Rest.{allSpan}
-use Rattle.resting.proofs.Turns.{getD-alike}
+use Rattle.book.specs.Resting.{allSpan}
+use Rattle.book.proofs.RestingTurns.{getD-alike}
 
 pub fresh-fits : bookFits freshBook ≡ true
 unfolding bookFits linesFit lineFits openIn allSpan noTwice

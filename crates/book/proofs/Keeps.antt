@@ -11,9 +11,9 @@ use borrow.Author.Tests.{not-true}
 use Rattle.ground.proofs.Picks.{both-true}
 use Rattle.owed.specs.Owed.{member, noTwice}
 use Rattle.owed.proofs.Lists.{twice-last}
-use Rattle.resting.specs.Rest.{allSpan, rests}
-use Rattle.resting.proofs.Resting.{rests-most}
-use Rattle.resting.proofs.Spans.{span-append, span-rest}
+use Rattle.book.specs.Resting.{allSpan, rests}
+use Rattle.book.proofs.RestingLists.{rests-most}
+use Rattle.book.proofs.Spans.{span-append, span-rest}
 use Rattle.line.specs.Line.{closedLine}
 use Rattle.line.specs.Fit.{lineFits}
 use Rattle.line.specs.Shape.{Shaped}

@@ -7,3 +7,7 @@ pub mod Fresh
 pub mod Keeps
 pub mod Apart
 pub mod Unread
+pub mod RestingTurns
+pub mod RestingLists
+pub mod Spans
+pub mod Once

@@ -8,7 +8,7 @@ use native.Mathlib.Numerals.{add-one}
 use native.Mathlib.Omega.{arith}
 use lib.Dec.{eqb}
 use lib.ListN.{length, getD, drop, drop-of-length-le, length-map}
-use Rattle.resting.proofs.Turns.{left}
+use Rattle.book.proofs.RestingTurns.{left}
 use Rattle.line.specs.Fit.{lineFits}
 use Rattle.line.specs.declared.Line.{Line}
 use Rattle.book.specs.Book.{openIn, linesFit, whoseFrom}

@@ -7,7 +7,7 @@ use mathlib.Core.List.{List, [], _∷_, _++_}
 use lib.Dec.{leb}
 use Rattle.ground.specs.Pick.{allHold}
 use Rattle.owed.specs.Owed.{member, noTwice}
-use Rattle.resting.specs.Rest.{allSpan}
+use Rattle.book.specs.Resting.{allSpan}
 use Rattle.line.specs.declared.Line.{Line}
 use Rattle.book.specs.Book.{lineOf, withLine, restingOf, bookFits, taken, whose}
 use Rattle.book.specs.declared.Book.{Book}

@@ -7,7 +7,7 @@ use lib.Dec.{eqb, leb}
 use lib.ListN.{getD, set, take, replicate}
 use Rattle.ground.specs.Pick.{pick, allHold}
 use Rattle.owed.specs.Owed.{member, noTwice}
-use Rattle.resting.specs.Rest.{allSpan}
+use Rattle.book.specs.Resting.{allSpan}
 use Rattle.line.specs.Line.{closedLine}
 use Rattle.line.specs.Fit.{lineFits}
 use Rattle.line.specs.declared.Line.{Line}

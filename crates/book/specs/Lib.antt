@@ -1,3 +1,5 @@
 pub mod Book
 pub mod Rest
 pub mod Shape
+pub mod Resting
+pub mod Marks

@@ -2,7 +2,7 @@
 -- Assumes nothing.
 use Prim.Native.Nat.{ℕ}
 use lib.ListN.{length, set}
-use Rattle.resting.specs.Rest.{rests, restedIn}
+use Rattle.book.specs.Resting.{rests, restedIn}
 use Rattle.line.specs.Line.{closedLine}
 use Rattle.book.specs.declared.Book.{Book}
 use Rattle.book.specs.Book.{restingOf, lineOf}

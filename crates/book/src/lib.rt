@@ -5,9 +5,10 @@ ghost use mathlib.Core.Bool.{true};
 ghost use Prim.Native.Nat.{_≤_, _<_};
 ghost use Rattle.book.specs.Book.{freshBook, lineOf, withLine, openIn, linesFit, bookFits, whose, taken};
 ghost use Rattle.book.specs.Rest.{closedAt};
-ghost use Rattle.resting.specs.Marks.{newIn, marked, none};
+ghost use Rattle.book.specs.Marks.{newIn, marked, none};
 use line::Line;
-use resting::Seen;
+
+mod resting; // resting.rt: the identifiers that rest
 
 pub struct Book {
     pub lines: [Line; 4],
@@ -15,6 +16,12 @@ pub struct Book {
     pub resting: [u8; 16],
     // How many rest. At most 16.
     pub rested: u8,
+}
+
+// Which identifiers were seen, 1 for each, and whether none of them came twice.
+pub struct Seen {
+    pub marks: [u8; 128],
+    pub once: bool,
 }
 
 // The line that has an identifier.

@@ -21,8 +21,8 @@ use Rattle.mode.specs.Moved.{ended}
 use Rattle.line.specs.Fit.{largest, lineFits}
 use Rattle.line.specs.declared.Line.{Line}
 use Rattle.line.proofs.Keeps.{line-ok}
-use Rattle.order.specs.Order.{closeTests}
-use Rattle.did.specs.Did.{slipOf}
+use Rattle.calls.specs.Order.{closeTests}
+use Rattle.calls.specs.Did.{slipOf}
 
 -- "handed out at most as many": a count has its 24 bits
 counted : (w : ℕ) (r : Receiving) → w ≤ widest → receivingFits w largest r ≡ true → ltb (r .next) 16777216 ≡ true

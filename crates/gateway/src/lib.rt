@@ -13,8 +13,8 @@ ghost use mathlib.Core.Path.{_≡_};
 ghost use mathlib.Core.List.{List};
 ghost use Rattle.ground.specs.Answer.{writtenAnswer};
 ghost use Rattle.book.specs.Book.{freshBook};
-ghost use Rattle.order.specs.Call as call;
-ghost use Rattle.did.specs.Did.{made, did, slipOf};
+ghost use Rattle.calls.specs.Call as call;
+ghost use Rattle.calls.specs.Did.{made, did, slipOf};
 ghost use Rattle.gateway.specs.Says.{openedSays};
 use book::Book;
 use ground::Verdict;
@@ -47,7 +47,7 @@ pub use outgoing::Taken; // a message's number, or a refusal
 pub use outgoing::Report; // held leaves the book alone, and answers how many, or a refusal
 pub use incoming::Came; // arrive's is an `Arrived`
 pub use incoming::Arrived; // a packet's line, or a refusal
-pub use did::Gave; // send, empty, hand_out and closing answer a `ground::Written`: how many octets are in the output, or a refusal
+pub use calls::Gave; // send, empty, hand_out and closing answer a `ground::Written`: how many octets are in the output, or a refusal
 
 pub struct Opened {
     pub book: Book,
@@ -65,7 +65,7 @@ pub fn fresh() -> Book
 pub fn open(book: Book, line: u8, settings: Settings, time: u64) -> Opened
     ensures { λ r. ⌜ ((store out : List ℕ) → made (openedSays (r .answer)) (r .book) store out ≡ did (call.opening line settings time) book store out) ⌝ }
 {
-    let verdict = order::may_open(book, line, settings);
+    let verdict = calls::may_open(book, line, settings);
     match verdict {
         Verdict::Refuse(r) => Opened {
             book,
@@ -104,7 +104,7 @@ fn slip_of(l: Line) -> Slip
 pub fn close(book: Book, line: u8, out: &mut [u8]) -> Gave
     ensures { λ r. ⌜ ((store : List ℕ) → made (writtenAnswer (r .answer)) (r .book) store (now (out .exit)) ≡ did (call.closing line) book store (now (out .entry))) ⌝ }
 {
-    let verdict = order::may_close(book, line, out.len());
+    let verdict = calls::may_close(book, line, out.len());
     match verdict {
         Verdict::Refuse(r) => Gave {
             book,

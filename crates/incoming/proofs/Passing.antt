@@ -31,9 +31,9 @@ use Rattle.book.specs.declared.Whose.{Whose}
 use Rattle.book.specs.declared.Whose.the-variants.{At, Nobody}
 use Rattle.book.proofs.Facts.{line-fits}
 use Rattle.book.proofs.Owner.{whose-at}
-use Rattle.order.specs.Order.{fitBook, roomy, packetLine, isSomebody, lineAt, addressTests, arrivalTests}
-use Rattle.order.specs.declared.MayArrive.{MayArrive}
-use Rattle.order.specs.declared.MayArrive.the-variants as arrives
+use Rattle.calls.specs.Order.{fitBook, roomy, packetLine, isSomebody, lineAt, addressTests, arrivalTests}
+use Rattle.incoming.specs.declared.MayArrive.{MayArrive}
+use Rattle.incoming.specs.declared.MayArrive.the-variants as arrives
 
 abbrev whyArrive : MayArrive → Verdict
 whyArrive (arrives.At i) = Pass

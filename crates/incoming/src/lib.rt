@@ -4,15 +4,22 @@ ghost use Prim.Native.Nat.{ℕ};
 ghost use mathlib.Core.Path.{_≡_};
 ghost use mathlib.Core.List.{List};
 ghost use Rattle.ground.specs.Answer.{writtenAnswer};
-ghost use Rattle.order.specs.Call as call;
-ghost use Rattle.did.specs.Did.{made, did};
+ghost use Rattle.calls.specs.Call as call;
+ghost use Rattle.calls.specs.Did.{made, did};
 ghost use Rattle.incoming.specs.Says.{arrivedSays};
 use book::Book;
-use did::Gave;
+use calls::Gave;
 use ground::Refusal;
 use ground::Verdict;
 use ground::Written;
-use order::MayArrive;
+
+mod verdicts; // verdicts.rt: what refuses them
+
+// May a packet arrive, and at which line?
+pub enum MayArrive {
+    At(u8),
+    Refused(Refusal),
+}
 
 // The line that a packet was for.
 pub enum Arrived {
@@ -30,7 +37,7 @@ pub struct Came {
 pub fn arrive(book: Book, store: &mut [u8], packet: &[u8]) -> Came
     ensures { λ r. ⌜ ((out : List ℕ) → made (arrivedSays (r .answer)) (r .book) (now (store .exit)) out ≡ did (call.arrival (now (packet .entry))) book (now (store .entry)) out) ⌝ }
 {
-    let may = address::may_arrive(book, store.len(), packet);
+    let may = verdicts::may_arrive(book, store.len(), packet);
     match may {
         MayArrive::Refused(r) => Came {
             book,
@@ -52,7 +59,7 @@ pub fn arrive(book: Book, store: &mut [u8], packet: &[u8]) -> Came
 pub fn hand_out(book: Book, store: &[u8], line: u8, channel: u8, out: &mut [u8]) -> Gave
     ensures { λ r. ⌜ made (writtenAnswer (r .answer)) (r .book) (now (store .entry)) (now (out .exit)) ≡ did (call.handOut line channel) book (now (store .entry)) (now (out .entry)) ⌝ }
 {
-    let verdict = admit::may_hand_out(book, store.len(), line, channel, out.len());
+    let verdict = verdicts::may_hand_out(book, store.len(), line, channel, out.len());
     match verdict {
         Verdict::Refuse(r) => Gave {
             book,

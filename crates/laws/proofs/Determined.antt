@@ -9,10 +9,10 @@ use Rattle.mode.specs.Acts as act
 use Rattle.mode.specs.Says.{heardSays, askedSays, tickedSays}
 use Rattle.line.specs.declared.Settings.{Settings}
 use Rattle.book.specs.declared.Book.{Book}
-use Rattle.order.specs.Call.{Call}
-use Rattle.order.specs.Call as call
-use Rattle.did.specs.Did.{Did, made, did}
-use Rattle.did.specs.declared.Gave.{Gave}
+use Rattle.calls.specs.Call.{Call}
+use Rattle.calls.specs.Call as call
+use Rattle.calls.specs.Did.{Did, made, did}
+use Rattle.calls.specs.declared.Gave.{Gave}
 use Rattle.outgoing.specs.Says.{takenSays, reportSays}
 use Rattle.outgoing.specs.declared.Took.{Took}
 use Rattle.outgoing.specs.declared.Report.{Report}

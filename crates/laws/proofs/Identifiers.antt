@@ -12,7 +12,7 @@ use Rattle.book.specs.declared.Book.{Book}
 use Rattle.book.proofs.Facts.{book-ok}
 use Rattle.book.proofs.Fresh.{fresh-fits, fresh-shaped}
 use Rattle.book.proofs.Owner.{one-owner, never-resting}
-use Rattle.did.specs.Did.{did}
+use Rattle.calls.specs.Did.{did}
 use Rattle.laws.specs.Reached.{Turn, reach}
 use Rattle.laws.proofs.Keeps.{Passes, every-call-keeps}
 

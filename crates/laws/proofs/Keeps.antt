@@ -34,7 +34,7 @@ use Rattle.relay.specs.Take.{takeCallTests, tookLine}
 use Rattle.relay.specs.HandOut.{handCallTests, handedLine}
 use Rattle.relay.proofs.Keeps.{took-line-same, handed-line-same, took-line-keeps, handed-line-keeps}
 use Rattle.writing.specs.Write.{emptyTests, wroteLine}
-use Rattle.laden.specs.Send.{sendTests}
+use Rattle.writing.specs.Send.{sendTests}
 use Rattle.writing.proofs.Keeps.{wrote-line-same, wrote-line-keeps}
 use Rattle.arriving.specs.Arrive.{arrivedLine}
 use Rattle.arriving.proofs.Stays.{arrived-stays}
@@ -44,11 +44,11 @@ use Rattle.book.specs.Shape.{BookShaped}
 use Rattle.book.specs.declared.Book.{Book}
 use Rattle.book.proofs.Facts.{line-fits}
 use Rattle.book.proofs.Keeps.{with-line-keeps, opened-keeps, closed-keeps, with-line-shaped, closed-shaped-book}
-use Rattle.order.specs.Call.{Call}
-use Rattle.order.specs.Call as call
-use Rattle.order.specs.Order.{tests, lineFor, openTests, closeTests, modeTests, packetLine, lineAt}
-use Rattle.order.proofs.Firsts.{line-passed, both-passed}
-use Rattle.did.specs.Did.{Did, did, done, effect}
+use Rattle.calls.specs.Call.{Call}
+use Rattle.calls.specs.Call as call
+use Rattle.calls.specs.Order.{tests, lineFor, openTests, closeTests, modeTests, packetLine, lineAt}
+use Rattle.calls.proofs.Firsts.{line-passed, both-passed}
+use Rattle.calls.specs.Did.{Did, did, done, effect}
 use Rattle.incoming.proofs.Passing.{addressed}
 
 -- a book that passes: BOOK lets it pass, and its arrays have the lengths that they are declared with

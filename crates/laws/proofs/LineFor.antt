@@ -16,19 +16,19 @@ use Rattle.relay.specs.Asked.{relayTests}
 use Rattle.relay.specs.Take.{takeCallTests}
 use Rattle.relay.specs.HandOut.{handCallTests}
 use Rattle.writing.specs.Write.{emptyTests}
-use Rattle.laden.specs.Send.{sendTests}
+use Rattle.writing.specs.Send.{sendTests}
 use Rattle.book.specs.Book.{lineOf}
 use Rattle.book.specs.Shape.{BookShaped}
 use Rattle.book.specs.declared.Book.{Book}
 use Rattle.book.proofs.Facts.{book-ok}
 use Rattle.book.proofs.Owner.{whose-at}
-use Rattle.order.specs.Call.{Call}
-use Rattle.order.specs.Call as call
-use Rattle.order.specs.Order.{tests, lineFor, openTests, closeTests, modeTests, packetLine, lineAt, addressTests}
-use Rattle.order.specs.declared.MayArrive.{MayArrive}
-use Rattle.order.specs.declared.MayArrive.the-variants as may
-use Rattle.order.proofs.Firsts.{OnLine, line-passed, both-passed}
-use Rattle.address.proofs.Arrivals.{addressed-owner}
+use Rattle.calls.specs.Call.{Call}
+use Rattle.calls.specs.Call as call
+use Rattle.calls.specs.Order.{tests, lineFor, openTests, closeTests, modeTests, packetLine, lineAt, addressTests}
+use Rattle.calls.specs.declared.MayArrive.{MayArrive}
+use Rattle.calls.specs.declared.MayArrive.the-variants as may
+use Rattle.calls.proofs.Firsts.{OnLine, line-passed, both-passed}
+use Rattle.incoming.proofs.Arrivals.{addressed-owner}
 use Rattle.incoming.proofs.Passing.{addressed}
 
 -- a packet finds its line, which is open, by its identifier

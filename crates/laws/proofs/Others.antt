@@ -31,19 +31,19 @@ use Rattle.store.proofs.Rooms.{Whose, Served, region, region-end, regions-apart
 use Rattle.relay.specs.Asked.{reliable}
 use Rattle.relay.specs.Take.{takeCallTests}
 use Rattle.relay.proofs.Lines.{channel-span, region-places, region-size, take-reliable, take-size, take-place}
-use Rattle.effect.specs.Effect.{Relaying, arrivalAt, putAs, storedStore}
+use Rattle.arriving.specs.Effect.{Relaying, arrivalAt, putAs, storedStore}
 use Rattle.arriving.specs.Arrive.{arriveTests, carries, arrivedStore}
-use Rattle.effect.proofs.Effects.{stored-near, place-near}
+use Rattle.arriving.proofs.Effects.{stored-near, place-near}
 use Rattle.arriving.proofs.Arrivals.{arrive-relaying, arrive-size, arrive-reliable}
 use Rattle.book.specs.Book.{lineOf}
 use Rattle.book.specs.Shape.{BookShaped}
 use Rattle.book.specs.declared.Book.{Book}
 use Rattle.book.proofs.Apart.{line-other, closed-other}
-use Rattle.order.specs.Call.{Call}
-use Rattle.order.specs.Call as call
-use Rattle.order.specs.Order.{tests, lineFor, packetLine, lineAt}
-use Rattle.order.proofs.Firsts.{both-passed}
-use Rattle.did.specs.Did.{Did, did, done, effect}
+use Rattle.calls.specs.Call.{Call}
+use Rattle.calls.specs.Call as call
+use Rattle.calls.specs.Order.{tests, lineFor, packetLine, lineAt}
+use Rattle.calls.proofs.Firsts.{both-passed}
+use Rattle.calls.specs.Did.{Did, did, done, effect}
 use Rattle.incoming.proofs.Passing.{addressed}
 
 -- Every line but the one that the call is for has the record that it had.

@@ -20,11 +20,11 @@ use Rattle.book.specs.Rest.{closedAt}
 use Rattle.book.specs.Shape.{BookShaped}
 use Rattle.book.specs.declared.Book.{Book}
 use Rattle.book.proofs.Apart.{line-same, closed-same}
-use Rattle.order.specs.Call.{Call}
-use Rattle.order.specs.Call as call
-use Rattle.order.specs.Order.{tests, lineFor}
-use Rattle.did.specs.Did.{Did, Effect, did, done, effect}
-use Rattle.did.proofs.Dids.{did-done}
+use Rattle.calls.specs.Call.{Call}
+use Rattle.calls.specs.Call as call
+use Rattle.calls.specs.Order.{tests, lineFor}
+use Rattle.calls.specs.Did.{Did, Effect, did, done, effect}
+use Rattle.calls.proofs.Dids.{did-done}
 use Rattle.laws.proofs.LineFor.{line-number}
 
 -- a call that puts an identifier to rest leaves a closed line

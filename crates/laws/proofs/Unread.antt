@@ -26,20 +26,20 @@ use Rattle.relay.specs.Asked.{relayTests}
 use Rattle.relay.specs.Take.{takeCallTests}
 use Rattle.relay.specs.HandOut.{handCallTests}
 use Rattle.writing.specs.Write.{emptyTests}
-use Rattle.laden.specs.Send.{sendTests}
+use Rattle.writing.specs.Send.{sendTests}
 use Rattle.arriving.specs.Arrive.{arriveTests}
 use Rattle.book.specs.Book.{lineOf, withLine, restingOf, bookFits, taken}
-use Rattle.resting.specs.Rest.{rests, restedIn}
+use Rattle.book.specs.Resting.{rests, restedIn}
 use Rattle.book.specs.Rest.{closedAt}
 use Rattle.book.specs.declared.Book.{Book}
 use Rattle.book.specs.declared.Whose.{Whose}
 use Rattle.book.proofs.Apart.{line-other}
 use Rattle.book.proofs.Unread.{closed-unread, taken-unread, whose-unread}
-use Rattle.order.specs.Call.{Call}
-use Rattle.order.specs.Call as call
-use Rattle.order.specs.Order.{tests, lineFor, fitBook, roomy, lineNumber, isOpen, openTests, closeTests, modeTests, packetLine, isSomebody, lineAt, addressTests, arrivalTests}
-use Rattle.did.specs.Did.{Did, Effect, made, did, done, effect}
-use Rattle.did.proofs.Dids.{did-done, did-refused}
+use Rattle.calls.specs.Call.{Call}
+use Rattle.calls.specs.Call as call
+use Rattle.calls.specs.Order.{tests, lineFor, fitBook, roomy, lineNumber, isOpen, openTests, closeTests, modeTests, packetLine, isSomebody, lineAt, addressTests, arrivalTests}
+use Rattle.calls.specs.Did.{Did, Effect, made, did, done, effect}
+use Rattle.calls.proofs.Dids.{did-done, did-refused}
 use Rattle.laws.proofs.Own.{accepted-passes}
 use Rattle.laws.proofs.LineFor.{opens, pass-address, pass-open}
 

@@ -3,8 +3,8 @@
 use Prim.Native.Nat.{ℕ}
 use mathlib.Core.List.{List, [], _∷_}
 use Rattle.book.specs.declared.Book.{Book}
-use Rattle.order.specs.Call.{Call}
-use Rattle.did.specs.Did.{did}
+use Rattle.calls.specs.Call.{Call}
+use Rattle.calls.specs.Did.{did}
 
 -- a call, with the output that is lent to it
 pub record Turn : Type 0 where

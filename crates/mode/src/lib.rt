@@ -7,6 +7,14 @@ ghost use Rattle.mode.specs.Moved.{openedModes, closedModes, enters, lea
 ghost use Rattle.mode.specs.Fit.{modesFit};
 use ground::Refusal;
 
+mod indication; // indication.rt: an indication heard
+mod recovery; // recovery.rt: a tick, and recovery by the clock
+mod request; // request.rt: a local request
+
+pub use indication::hear;
+pub use recovery::tick;
+pub use request::ask;
+
 // What a line remembers of its media modes.
 pub struct Modes {
     // VBD is offered, as opening named it.

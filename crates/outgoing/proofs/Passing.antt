@@ -9,14 +9,14 @@ use Rattle.ground.specs.declared.Verdict.{Verdict}
 use Rattle.ground.specs.declared.Verdict.the-variants.{Pass, Refuse}
 use Rattle.ground.proofs.Settled.{told}
 use Rattle.sending.specs.declared.Held.{Held}
-use Rattle.laden.specs.Send.{sendTests, ranked, heldIn, maySend, Sendable}
-use Rattle.laden.specs.declared.MaySend.{MaySend}
-use Rattle.laden.specs.declared.MaySend.the-variants as may
-use Rattle.laden.proofs.Sends.{may-sendable}
+use Rattle.writing.specs.Send.{sendTests, ranked, heldIn, maySend, Sendable}
+use Rattle.writing.specs.declared.MaySend.{MaySend}
+use Rattle.writing.specs.declared.MaySend.the-variants as may
+use Rattle.writing.proofs.Sends.{may-sendable}
 use Rattle.book.specs.Book.{lineOf}
 use Rattle.book.specs.declared.Book.{Book}
-use Rattle.order.specs.Order.{fitBook, roomy, lineNumber}
-use Rattle.order.proofs.Firsts.{OnLine, both-passed}
+use Rattle.calls.specs.Order.{fitBook, roomy, lineNumber}
+use Rattle.calls.proofs.Firsts.{OnLine, both-passed}
 
 abbrev whySend : MaySend → Verdict
 whySend (may.Message h) = Pass

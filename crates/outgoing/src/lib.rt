@@ -4,15 +4,17 @@ ghost use Prim.Native.Nat.{ℕ};
 ghost use mathlib.Core.Path.{_≡_};
 ghost use mathlib.Core.List.{List};
 ghost use Rattle.ground.specs.Answer.{writtenAnswer};
-ghost use Rattle.order.specs.Call as call;
-ghost use Rattle.did.specs.Did.{made, did};
+ghost use Rattle.calls.specs.Call as call;
+ghost use Rattle.calls.specs.Did.{made, did};
 ghost use Rattle.outgoing.specs.Says.{takenSays, reportSays};
 use book::Book;
-use did::Gave;
+use calls::Gave;
 use ground::Refusal;
 use ground::Verdict;
 use ground::Written;
-use laden::MaySend;
+use writing::MaySend;
+
+mod verdicts; // verdicts.rt: what refuses them
 
 // The number that a message taken has, in the 14 bits of a packet.
 pub enum Taken {
@@ -36,7 +38,7 @@ pub enum Report {
 pub fn take(book: Book, store: &mut [u8], line: u8, channel: u8, message: &[u8]) -> Took
     ensures { λ r. ⌜ ((out : List ℕ) → made (takenSays (r .answer)) (r .book) (now (store .exit)) out ≡ did (call.taking line channel (now (message .entry))) book (now (store .entry)) out) ⌝ }
 {
-    let verdict = admit::may_take(book, store.len(), line, channel, message.len());
+    let verdict = verdicts::may_take(book, store.len(), line, channel, message.len());
     match verdict {
         Verdict::Refuse(r) => Took {
             book,
@@ -60,14 +62,14 @@ pub fn take(book: Book, store: &mut [u8], line: u8, channel: u8, message: &[u8])
 pub fn send(book: Book, store: &[u8], line: u8, channel: u8, rank: u8, out: &mut [u8]) -> Gave
     ensures { λ r. ⌜ made (writtenAnswer (r .answer)) (r .book) (now (store .entry)) (now (out .exit)) ≡ did (call.sending line channel rank) book (now (store .entry)) (now (out .entry)) ⌝ }
 {
-    let may = admit::may_send(book, store.len(), line, channel, rank, out.len());
+    let may = verdicts::may_send(book, store.len(), line, channel, rank, out.len());
     match may {
         MaySend::Refused(r) => Gave {
             book,
             answer: Written::Refused(r),
         },
         MaySend::Message(h) => {
-            let sent = laden::send(book.line(line), line, store, channel, h, out);
+            let sent = writing::send(book.line(line), line, store, channel, h, out);
             let answer = sent.answer;
             let next = book.with_line(line, sent.line);
             Gave { book: next, answer }
@@ -80,7 +82,7 @@ pub fn send(book: Book, store: &[u8], line: u8, channel: u8, rank: u8, out: &mut
 pub fn empty(book: Book, line: u8, channel: u8, out: &mut [u8]) -> Gave
     ensures { λ r. ⌜ ((store : List ℕ) → made (writtenAnswer (r .answer)) (r .book) store (now (out .exit)) ≡ did (call.empty line channel) book store (now (out .entry))) ⌝ }
 {
-    let verdict = admit::may_write_empty(book, line, channel, out.len());
+    let verdict = verdicts::may_write_empty(book, line, channel, out.len());
     match verdict {
         Verdict::Refuse(r) => Gave {
             book,
@@ -99,7 +101,7 @@ pub fn empty(book: Book, line: u8, channel: u8, out: &mut [u8]) -> Gave
 pub fn held(book: Book, line: u8, channel: u8) -> Report
     ensures { λ r. ⌜ ((store out : List ℕ) → made (reportSays r) book store out ≡ did (call.report line channel) book store out) ⌝ }
 {
-    let verdict = admit::may_report(book, line, channel);
+    let verdict = verdicts::may_report(book, line, channel);
     match verdict {
         Verdict::Refuse(r) => Report::Refused(r),
         Verdict::Pass => Report::Holds(relay::held(book.line(line), channel)),

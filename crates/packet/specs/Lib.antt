@@ -1,2 +1,3 @@
 pub mod Acks
 pub mod Read
+pub mod Write

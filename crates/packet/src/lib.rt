@@ -9,6 +9,10 @@ ghost use Rattle.packet.specs.Read.{headTests, listTests, headAnswer, ac
 use ground::Refusal;
 use ground::Verdict;
 
+mod write; // write.rt: a packet written
+
+pub use write::write_packet;
+
 // What a packet says before its list of acknowledgements. What is not looked at is 0.
 pub struct Head {
     // 0 to 127: it finds the line.

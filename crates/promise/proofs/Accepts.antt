@@ -38,13 +38,13 @@ use Rattle.relay.specs.Asked.{reliable, relayTests}
 use Rattle.relay.specs.Take.{takeCallTests}
 use Rattle.relay.specs.HandOut.{handCallTests}
 use Rattle.writing.specs.Write.{headerFor, emptyTests}
-use Rattle.laden.specs.Send.{ranked, heldIn, sendTests, sentLength}
+use Rattle.writing.specs.Send.{ranked, heldIn, sendTests, sentLength}
 use Rattle.writing.proofs.Packets.{acks-few}
-use Rattle.laden.proofs.Sends.{send-may, may-passed, may-sendable, send-size}
+use Rattle.writing.proofs.Sends.{send-may, may-passed, may-sendable, send-size}
 use Rattle.channel.proofs.Windows.{window-narrow}
 use Rattle.book.proofs.Facts.{line-fits}
-use Rattle.order.specs.Call as call
-use Rattle.order.specs.Order.{tests, fitBook, roomy, lineNumber}
+use Rattle.calls.specs.Call as call
+use Rattle.calls.specs.Order.{tests, fitBook, roomy, lineNumber}
 use Rattle.promise.specs.Past.{Past}
 use Rattle.promise.specs.Run.{Gateway, lineAt}
 use Rattle.promise.specs.Ends.{roomsOf}

@@ -12,9 +12,9 @@ use Rattle.flow.specs.Flow.{Message, Full}
 use Rattle.flow.proofs.Flows.{data-full}
 use Rattle.line.specs.declared.Line.{Line}
 use Rattle.mode.specs.Given.{modem}
-use Rattle.effect.specs.Effect.{Relaying, heardLine, ackedAll, storedLine, storedStore}
+use Rattle.arriving.specs.Effect.{Relaying, heardLine, ackedAll, storedLine, storedStore}
 use Rattle.arriving.specs.Arrive.{arriveTests, newsLine, arrivedLine, arrivedStore}
-use Rattle.effect.proofs.Effects.{heard-relaying}
+use Rattle.arriving.proofs.Effects.{heard-relaying}
 use Rattle.arriving.proofs.Arrivals.{news-relaying, payload-length, arrive-passed, arrive-size, news-all, store-all, payload-line, payload-store}
 use Rattle.promise.specs.Past.{Mark, Packet, enterAll, heardPast}
 use Rattle.promise.specs.Run.{Each, none, also, Recent, bound, Honest}

@@ -27,11 +27,11 @@ use Rattle.book.specs.Book.{lineOf, withLine}
 use Rattle.book.specs.declared.Book.{Book}
 use Rattle.book.proofs.Apart.{line-same}
 use Rattle.book.proofs.Facts.{line-fits}
-use Rattle.order.specs.Call.{Call}
-use Rattle.order.specs.Call as call
-use Rattle.order.specs.Order.{lineFor, fitBook, lineNumber, isOpen}
-use Rattle.did.specs.Did.{Did, made, did, effect}
-use Rattle.did.proofs.Dids.{moved-did}
+use Rattle.calls.specs.Call.{Call}
+use Rattle.calls.specs.Call as call
+use Rattle.calls.specs.Order.{lineFor, fitBook, lineNumber, isOpen}
+use Rattle.calls.specs.Did.{Did, made, did, effect}
+use Rattle.calls.proofs.Dids.{moved-did}
 use Rattle.laws.proofs.Keeps.{every-call-keeps}
 use Rattle.laws.proofs.Others.{others-stay, rooms-stay}
 use Rattle.promise.specs.Past.{Past, justOpened}

@@ -21,11 +21,11 @@ use Rattle.line.specs.Line.{closedLine, openedLine}
 use Rattle.line.specs.declared.Line.{Line}
 use Rattle.line.specs.declared.Settings.{Settings}
 use Rattle.book.specs.Book.{freshBook, openIn}
-use Rattle.resting.proofs.Turns.{getD-alike}
-use Rattle.order.specs.Call.{Call}
-use Rattle.order.specs.Call as call
-use Rattle.order.specs.Order.{tests, lineFor, fitBook, lineNumber, openTests, modeTests}
-use Rattle.did.specs.Did.{did, effect}
+use Rattle.book.proofs.RestingTurns.{getD-alike}
+use Rattle.calls.specs.Call.{Call}
+use Rattle.calls.specs.Call as call
+use Rattle.calls.specs.Order.{tests, lineFor, fitBook, lineNumber, openTests, modeTests}
+use Rattle.calls.specs.Did.{did, effect}
 use Rattle.promise.specs.Past.{nothingYet, justOpened}
 use Rattle.promise.specs.Run.{Gateway, freshWith, lineAt}
 use Rattle.promise.specs.Ours.{after}

@@ -20,22 +20,22 @@ use Rattle.connect.specs.Write.{connectOctets}
 use Rattle.connect.specs.Write as body
 use Rattle.connect.specs.declared.Connect.{Connect}
 use Rattle.connect.specs.declared.Reading.the-variants as connectReading
-use Rattle.back.proofs.Connects as connectBack
+use Rattle.roundtrip.proofs.Connects as connectBack
 use Rattle.breaks.specs.Break.{breakAt, breakOctets}
 use Rattle.breaks.specs.Break as breaks
 use Rattle.breaks.specs.declared.Break.{Break}
 use Rattle.breaks.specs.declared.Reading.the-variants as breakReading
-use Rattle.back.proofs.Breaks as breakBack
+use Rattle.roundtrip.proofs.Breaks as breakBack
 use Rattle.slip.specs.Slip.{slipOctets}
 use Rattle.slip.specs.Slip as slip
 use Rattle.slip.specs.declared.Reading.the-variants as slipReading
-use Rattle.back.proofs.Slips as slipBack
+use Rattle.roundtrip.proofs.Slips as slipBack
 use Rattle.mode.specs.Moved.{ended}
 use Rattle.line.specs.declared.Line.{Line}
 use Rattle.book.proofs.Facts.{line-fits}
-use Rattle.order.specs.Call as call
-use Rattle.order.specs.Order.{tests, lineFor, fitBook, lineNumber, closeTests}
-use Rattle.did.specs.Did.{effect, slipOf}
+use Rattle.calls.specs.Call as call
+use Rattle.calls.specs.Order.{tests, lineFor, fitBook, lineNumber, closeTests}
+use Rattle.calls.specs.Did.{effect, slipOf}
 use Rattle.gateway.proofs.Slips.{slip-passes}
 use Rattle.promise.specs.Build.{leftBy, ours}
 use Rattle.promise.specs.Past.{nothingYet}

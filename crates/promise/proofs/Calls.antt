@@ -21,12 +21,12 @@ use Rattle.relay.proofs.Keeps.{SameSettings, took-line-same, handed-line-same}
 use Rattle.relay.proofs.Lines.{take-asked, hand-asked}
 use Rattle.writing.specs.Write.{emptyTests, wroteLine}
 use Rattle.writing.specs.Write as written
-use Rattle.laden.specs.Send.{sendTests, ranked, heldIn, heldPacket}
+use Rattle.writing.specs.Send.{sendTests, ranked, heldIn, heldPacket}
 use Rattle.writing.proofs.Keeps.{wrote-line-same}
-use Rattle.order.specs.Call.{Call}
-use Rattle.order.specs.Call as call
-use Rattle.order.specs.Order.{tests, lineFor, fitBook, roomy, lineNumber}
-use Rattle.did.specs.Did.{effect}
+use Rattle.calls.specs.Call.{Call}
+use Rattle.calls.specs.Call as call
+use Rattle.calls.specs.Order.{tests, lineFor, fitBook, roomy, lineNumber}
+use Rattle.calls.specs.Did.{effect}
 use Rattle.flow.specs.Flow.{Message}
 use Rattle.promise.specs.Past.{Mark, Past, tookPast, handedPast, wrotePast}
 use Rattle.promise.specs.Run.{Gateway, given, lineAt, Relays, rankedMark, baseMark, sentPacket, emptyPacket}

@@ -16,10 +16,10 @@ use Rattle.line.specs.declared.Line.{Line}
 use Rattle.line.specs.declared.Settings.{Settings}
 use Rattle.mode.specs.Given.{modem}
 use Rattle.arriving.specs.Arrive.{arriveTests}
-use Rattle.order.specs.Call.{Call}
-use Rattle.order.specs.Call as call
-use Rattle.order.specs.Order.{tests, lineFor, fitBook, lineNumber, openTests}
-use Rattle.did.specs.Did.{effect}
+use Rattle.calls.specs.Call.{Call}
+use Rattle.calls.specs.Call as call
+use Rattle.calls.specs.Order.{tests, lineFor, fitBook, lineNumber, openTests}
+use Rattle.calls.specs.Did.{effect}
 use Rattle.incoming.proofs.Passing.{addressed}
 use Rattle.promise.specs.Past.{Past, tookPast, handedPast, wrotePast, heardPast}
 use Rattle.promise.specs.Ours.{does, after, Provided, Adds}

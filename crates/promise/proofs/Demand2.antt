@@ -23,10 +23,10 @@ use Rattle.mode.proofs.Left.{leaving-marks, gone-stays}
 use Rattle.line.specs.declared.Line.{Line}
 use Rattle.book.specs.Book.{lineOf}
 use Rattle.book.proofs.Apart.{line-same}
-use Rattle.order.specs.Call as call
-use Rattle.order.specs.Order.{fitBook, lineNumber, isOpen}
-use Rattle.did.specs.Did.{Did}
-use Rattle.did.proofs.Dids.{settles, moved-did}
+use Rattle.calls.specs.Call as call
+use Rattle.calls.specs.Order.{fitBook, lineNumber, isOpen}
+use Rattle.calls.specs.Did.{Did}
+use Rattle.calls.proofs.Dids.{settles, moved-did}
 use Rattle.line.specs.Mode.{steppedTo}
 use Rattle.promise.specs.Build.{ours}
 use Rattle.promise.specs.Run.{Gateway, accepts, lineAt, Relays}

@@ -15,10 +15,10 @@ use Rattle.line.specs.Fit.{largest}
 use Rattle.line.specs.Line.{sendingOf}
 use Rattle.relay.specs.Asked.{reliable}
 use Rattle.relay.proofs.Lines.{channel-span}
-use Rattle.order.specs.Call.{Call}
-use Rattle.order.specs.Call as call
-use Rattle.order.specs.Order.{lineFor}
-use Rattle.did.specs.Did.{did, effect}
+use Rattle.calls.specs.Call.{Call}
+use Rattle.calls.specs.Call as call
+use Rattle.calls.specs.Order.{lineFor}
+use Rattle.calls.specs.Did.{did, effect}
 use Rattle.laws.proofs.Own.{own-values}
 use Rattle.promise.specs.Build.{Does, ours}
 use Rattle.promise.specs.Past.{Packet, Past, tookPast, handedPast, wrotePast, heardPast}

@@ -12,10 +12,10 @@ use lib.Seq.{take-all}
 use Rattle.flow.specs.Flow.{Message, Handed, Have}
 use Rattle.flow.proofs.Flows.{handed-grows}
 use Rattle.relay.specs.Asked.{reliable}
-use Rattle.order.specs.Call.{Call}
-use Rattle.order.specs.Call as call
-use Rattle.order.specs.Order.{lineFor}
-use Rattle.did.specs.Did.{effect}
+use Rattle.calls.specs.Call.{Call}
+use Rattle.calls.specs.Call as call
+use Rattle.calls.specs.Order.{lineFor}
+use Rattle.calls.specs.Did.{effect}
 use Rattle.promise.specs.Past.{Past, handedPast}
 use Rattle.promise.specs.Run.{Gateway, given, handed, calls, there}
 use Rattle.promise.specs.Promise.{sendsBy, receivesBy, InRelay, AllCame, outAt, done, next, Ample}

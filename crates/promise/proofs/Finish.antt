@@ -15,12 +15,12 @@ use Rattle.flow.proofs.Flows.{none-or}
 use Rattle.line.specs.Line.{sendingOf}
 use Rattle.relay.specs.Asked.{reliable}
 use Rattle.writing.specs.Write.{wroteLine}
-use Rattle.laden.specs.Send.{ranked, heldIn}
+use Rattle.writing.specs.Send.{ranked, heldIn}
 use Rattle.channel.proofs.Windows.{window-narrow}
-use Rattle.order.specs.Call.{Call}
-use Rattle.order.specs.Call as call
-use Rattle.order.specs.Order.{lineFor}
-use Rattle.did.specs.Did.{effect}
+use Rattle.calls.specs.Call.{Call}
+use Rattle.calls.specs.Call as call
+use Rattle.calls.specs.Order.{lineFor}
+use Rattle.calls.specs.Did.{effect}
 use Rattle.promise.specs.Past.{Mark, Packet, Past, wrotePast, heardPast}
 use Rattle.promise.specs.Run.{Gateway, lineAt, Each, none, also, Recent, Honest, rankedMark, baseMark, sentPacket, emptyPacket, sent, wrote, heard, stay, here, there}
 use Rattle.promise.specs.Promise.{sendsBy, InRelay, AllCame}

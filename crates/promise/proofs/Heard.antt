@@ -19,8 +19,8 @@ use Rattle.line.specs.Line.{sendingOf, receivingOf, withSending}
 use Rattle.line.specs.declared.Line.{Line}
 use Rattle.store.specs.declared.Way.the-variants as way
 use Rattle.relay.specs.Asked.{reliable}
-use Rattle.effect.specs.Effect.{Relaying, heardLine, ackedLine, ackedAll}
-use Rattle.effect.proofs.Effects.{heard-relaying, acked-relaying}
+use Rattle.arriving.specs.Effect.{Relaying, heardLine, ackedLine, ackedAll}
+use Rattle.arriving.proofs.Effects.{heard-relaying, acked-relaying}
 use Rattle.arriving.proofs.Keeps.{heard-shaped, acked-shaped}
 use Rattle.promise.specs.Past.{Mark}
 use Rattle.promise.specs.Run.{Each, none, also, Recent, bound}

@@ -15,7 +15,7 @@ use Rattle.ground.proofs.Verdicts.{passes, verdict-on}
 use Rattle.packet.specs.Read.{headAt, headTests}
 use Rattle.line.specs.Line.{closedLine}
 use Rattle.line.proofs.Keeps.{closed-fits}
-use Rattle.effect.specs.Effect.{Relaying}
+use Rattle.arriving.specs.Effect.{Relaying}
 use Rattle.arriving.specs.Arrive.{arriveTests, arrivedLine, arrivedStore}
 use Rattle.arriving.proofs.Stays.{arrived-stays}
 use Rattle.book.specs.Book.{lineOf, whose}
@@ -23,11 +23,11 @@ use Rattle.book.specs.declared.Whose.{Whose}
 use Rattle.book.specs.declared.Whose.the-variants.{At}
 use Rattle.book.proofs.Facts.{line-fits}
 use Rattle.book.proofs.Owner.{whose-found}
-use Rattle.order.specs.Call.{Call}
-use Rattle.order.specs.Call as call
-use Rattle.order.specs.Order.{tests, lineFor, fitBook, roomy, isSomebody, packetLine, addressTests, arrivalTests}
-use Rattle.order.specs.Order as order
-use Rattle.did.specs.Did.{effect}
+use Rattle.calls.specs.Call.{Call}
+use Rattle.calls.specs.Call as call
+use Rattle.calls.specs.Order.{tests, lineFor, fitBook, roomy, isSomebody, packetLine, addressTests, arrivalTests}
+use Rattle.calls.specs.Order as order
+use Rattle.calls.specs.Did.{effect}
 use Rattle.laws.proofs.Identifiers.{fresh-passes}
 use Rattle.promise.specs.Past.{Packet, Past, nothingYet, heardPast}
 use Rattle.promise.specs.Run.{Gateway, lineAt, Relays, Honest, refused, elsewhere, moded, reported, took, handed, sent, wrote, heard, before, opens, calls, stay, here, there, freshWith}

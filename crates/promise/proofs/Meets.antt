@@ -29,10 +29,10 @@ use Rattle.mode.specs.declared.Modes.{Modes}
 use Rattle.relay.specs.Asked.{reliable}
 use Rattle.book.specs.Book.{freshBook, openIn}
 use Rattle.book.proofs.Fresh.{fresh-fits}
-use Rattle.resting.proofs.Turns.{getD-alike}
-use Rattle.order.specs.Call as call
-use Rattle.order.specs.Order.{tests, lineFor, fitBook, lineNumber, openTests}
-use Rattle.did.specs.Did.{effect}
+use Rattle.book.proofs.RestingTurns.{getD-alike}
+use Rattle.calls.specs.Call as call
+use Rattle.calls.specs.Order.{tests, lineFor, fitBook, lineNumber, openTests}
+use Rattle.calls.specs.Did.{effect}
 use Rattle.promise.specs.Past.{Past, nothingYet, justOpened, more}
 use Rattle.promise.specs.Ours.{after, Step, Run}
 use Rattle.promise.specs.Run.{Gateway, lineAt, Relays, moded, took, opens, calls, stay, here, there, freshWith}

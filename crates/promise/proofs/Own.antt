@@ -11,11 +11,11 @@ use borrow.Author.Tests.{eqb-true, eqb-false, eq-eqb}
 use Rattle.ground.specs.Refusal.{verdict}
 use Rattle.ground.specs.declared.Verdict.the-variants.{Pass}
 use Rattle.book.specs.Book.{lineOf}
-use Rattle.order.specs.Call.{Call}
-use Rattle.order.specs.Order.{tests, lineFor}
-use Rattle.did.specs.Did.{effect}
+use Rattle.calls.specs.Call.{Call}
+use Rattle.calls.specs.Order.{tests, lineFor}
+use Rattle.calls.specs.Did.{effect}
 use Rattle.laws.proofs.Own.{accepted-passes, passes-accepted, own-line, own-store, own-out, own-values}
-use Rattle.did.proofs.Refusing.{Unchanged, refusal-changes-nothing}
+use Rattle.calls.proofs.Refusing.{Unchanged, refusal-changes-nothing}
 use Rattle.promise.specs.Past.{Past}
 use Rattle.promise.specs.Run.{Gateway, accepts, given, lineAt}
 use Rattle.promise.specs.Ours.{does, after}

@@ -10,11 +10,11 @@ use Rattle.ground.specs.declared.Verdict.{Verdict}
 use Rattle.ground.specs.declared.Verdict.the-variants.{Pass, Refuse}
 use Rattle.packet.specs.Acks.{ackList}
 use Rattle.packet.specs.Read.{headAt, headTests, headRead}
-use Rattle.pack.specs.Write.{packetOctets, writeTests}
+use Rattle.packet.specs.Write.{packetOctets, writeTests}
 use Rattle.packet.specs.declared.Head.{Head}
 use Rattle.packet.specs.declared.Acks.{Acks}
 use Rattle.packet.specs.declared.HeadRead.the-variants as head
-use Rattle.back.proofs.Packets.{head-round, acks-round, payload-round}
+use Rattle.roundtrip.proofs.Packets.{head-round, acks-round, payload-round}
 use Rattle.owed.specs.Owed.{owedOf, firstThree}
 use Rattle.line.specs.declared.Line.{Line}
 use Rattle.writing.specs.Write.{acksFor}

@@ -23,19 +23,19 @@ use Rattle.line.specs.Line.{sendingOf}
 use Rattle.line.specs.declared.Line.{Line}
 use Rattle.relay.specs.Asked.{reliable}
 use Rattle.writing.specs.Write.{acksFor, headFor, emptyPacket, emptyTests}
-use Rattle.laden.specs.Send.{heldPacket, sendTests, maySend, Sendable}
-use Rattle.laden.specs.declared.MaySend.the-variants as may
+use Rattle.writing.specs.Send.{heldPacket, sendTests, maySend, Sendable}
+use Rattle.writing.specs.declared.MaySend.the-variants as may
 use Rattle.writing.proofs.Packets as written
-use Rattle.laden.proofs.Sends.{may-sendable, send-passes}
+use Rattle.writing.proofs.Sends.{may-sendable, send-passes}
 use Rattle.arriving.specs.Arrive.{arriveTests}
 use Rattle.book.specs.declared.Whose.{Whose}
 use Rattle.book.specs.declared.Whose.the-variants.{At, Nobody}
 use Rattle.book.proofs.Facts.{line-fits}
 use Rattle.book.proofs.Owner.{whose-at}
-use Rattle.order.specs.Call as call
-use Rattle.order.specs.Order.{tests, lineFor, fitBook, roomy, lineNumber, packetLine, isSomebody, addressTests, arrivalTests}
-use Rattle.order.specs.Order as order
-use Rattle.did.specs.Did.{effect}
+use Rattle.calls.specs.Call as call
+use Rattle.calls.specs.Order.{tests, lineFor, fitBook, roomy, lineNumber, packetLine, isSomebody, addressTests, arrivalTests}
+use Rattle.calls.specs.Order as order
+use Rattle.calls.specs.Did.{effect}
 use Rattle.laws.proofs.Own.{own-values}
 use Rattle.promise.specs.Run.{Gateway, accepts, given, lineAt, Relays}
 use Rattle.promise.specs.Ours.{does}

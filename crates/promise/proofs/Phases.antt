@@ -16,7 +16,7 @@ use Rattle.relay.specs.Asked.{reliable}
 use Rattle.relay.proofs.Keeps.{SameSettings}
 use Rattle.book.specs.Book.{bookFits}
 use Rattle.book.specs.Shape.{BookShaped}
-use Rattle.order.specs.Call.{Call}
+use Rattle.calls.specs.Call.{Call}
 use Rattle.laws.proofs.Keeps.{every-call-keeps, store-length}
 use Rattle.promise.specs.Past.{Past, nothingYet, justOpened}
 use Rattle.promise.specs.Run.{Gateway, lineAt, Relays}

@@ -23,10 +23,10 @@ use Rattle.line.specs.Line.{sendingOf}
 use Rattle.store.specs.declared.Way.the-variants as way
 use Rattle.relay.specs.Asked.{reliable, relayTests}
 use Rattle.book.proofs.Facts.{line-fits}
-use Rattle.order.specs.Call as call
-use Rattle.order.specs.Order.{tests, lineFor, fitBook, lineNumber}
-use Rattle.did.specs.Did.{Did, done, effect}
-use Rattle.did.proofs.Dids.{did-done}
+use Rattle.calls.specs.Call as call
+use Rattle.calls.specs.Order.{tests, lineFor, fitBook, lineNumber}
+use Rattle.calls.specs.Did.{Did, done, effect}
+use Rattle.calls.proofs.Dids.{did-done}
 use Rattle.promise.specs.Build.{ours}
 use Rattle.promise.specs.Run.{Gateway, lineAt, Relays}
 use Rattle.promise.specs.Ours.{does}

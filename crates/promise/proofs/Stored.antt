@@ -33,10 +33,10 @@ use Rattle.store.specs.Store.{regionOf}
 use Rattle.store.specs.declared.Way.the-variants as way
 use Rattle.store.proofs.Rooms.{Whose, Served}
 use Rattle.relay.specs.Asked.{reliable}
-use Rattle.effect.specs.Effect.{Relaying, owingLine, arrivalAt, storedLine, putAs, storedStore}
+use Rattle.arriving.specs.Effect.{Relaying, owingLine, arrivalAt, storedLine, putAs, storedStore}
 use Rattle.channel.proofs.Windows.{window-narrow}
-use Rattle.effect.proofs.Effects.{stored-near, place-near}
-use Rattle.effect.proofs.Stays.{stored-stays}
+use Rattle.arriving.proofs.Effects.{stored-near, place-near}
+use Rattle.arriving.proofs.StepsStay.{stored-stays}
 use Rattle.arriving.proofs.Keeps.{stored-relaying, stored-shaped, stored-store-length}
 use Rattle.promise.specs.Past.{enter}
 use Rattle.promise.specs.Run.{also, bound}

@@ -20,9 +20,9 @@ use Rattle.places.specs.declared.Place.the-variants.{At, Missing}
 use Rattle.places.proofs.Ranks.{rank-holds}
 use Rattle.packet.specs.Acks.{ackList}
 use Rattle.packet.specs.Read.{headAt}
-use Rattle.pack.specs.Write.{packetOctets, writeTests}
+use Rattle.packet.specs.Write.{packetOctets, writeTests}
 use Rattle.packet.specs.declared.Head.{Head}
-use Rattle.back.proofs.Packets.{size-round}
+use Rattle.roundtrip.proofs.Packets.{size-round}
 use Rattle.channel.specs.Channel.{modulus, windowOf}
 use Rattle.channel.specs.Distance.{placeOf}
 use Rattle.sending.specs.Sending.{heldAt, heldOf}
@@ -46,10 +46,10 @@ use Rattle.store.proofs.Octets.{room-front}
 use Rattle.relay.specs.Asked.{reliable, relayTests}
 use Rattle.relay.proofs.Lines.{channel-span, region-size}
 use Rattle.writing.specs.Write.{acksFor, wroteLine, baseFor, headFor, emptyPacket, emptyTests}
-use Rattle.laden.specs.Send.{ranked, isHeld, heldIn, sendTests, maySend, heldPacket, Sendable}
-use Rattle.laden.specs.declared.MaySend.the-variants as may
+use Rattle.writing.specs.Send.{ranked, isHeld, heldIn, sendTests, maySend, heldPacket, Sendable}
+use Rattle.writing.specs.declared.MaySend.the-variants as may
 use Rattle.writing.proofs.Packets.{empty-passes}
-use Rattle.laden.proofs.Sends.{may-sendable, send-reliable, send-passes}
+use Rattle.writing.proofs.Sends.{may-sendable, send-reliable, send-passes}
 use Rattle.writing.proofs.Keeps.{wrote-line-keeps}
 use Rattle.promise.specs.Past.{Mark, Packet, wrotePast}
 use Rattle.promise.specs.Run.{also}

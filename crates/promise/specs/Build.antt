@@ -17,8 +17,8 @@ use Rattle.breaks.specs.Break as breaks
 use Rattle.breaks.specs.declared.Break.{Break}
 use Rattle.slip.specs.Slip as slip
 use Rattle.book.specs.declared.Book.{Book}
-use Rattle.order.specs.Call.{Call}
-use Rattle.did.specs.Did.{Did, did}
+use Rattle.calls.specs.Call.{Call}
+use Rattle.calls.specs.Did.{Did, did}
 
 -- a call on a book, with the store and the output that are lent to it
 abbrev pub Does : Type 0

@@ -11,7 +11,7 @@ use Rattle.ground.specs.Pick.{bit}
 use Rattle.ground.specs.Refusal.{verdict}
 use Rattle.ground.specs.declared.Verdict.the-variants.{Pass}
 use Rattle.packet.specs.Read.{headAt, acksAt, payloadOf, headTests, listTests}
-use Rattle.pack.specs.Write.{packetOctets}
+use Rattle.packet.specs.Write.{packetOctets}
 use Rattle.packet.specs.declared.Head.{Head}
 use Rattle.packet.specs.declared.Acks.{Acks}
 use Rattle.connect.specs.Read.{connectAt}
@@ -41,11 +41,11 @@ use Rattle.store.specs.Store.{regionOf, octetsIn}
 use Rattle.store.specs.declared.Way.the-variants as way
 use Rattle.relay.specs.Asked.{reliable}
 use Rattle.writing.specs.Write.{acksFor, headFor}
-use Rattle.laden.specs.Send.{ranked, heldIn}
+use Rattle.writing.specs.Send.{ranked, heldIn}
 use Rattle.book.specs.Book.{bookFits}
 use Rattle.book.specs.Shape.{BookShaped}
-use Rattle.order.specs.Call as call
-use Rattle.did.specs.Did.{Did, slipOf}
+use Rattle.calls.specs.Call as call
+use Rattle.calls.specs.Did.{Did, slipOf}
 use Rattle.promise.specs.Build.{Left, octetsLeft, Build}
 use Rattle.promise.specs.Run.{Gateway, does, after, accepts, given, lineAt, Relays}
 

@@ -13,9 +13,9 @@ use Rattle.mode.specs.Acts.{ask}
 use Rattle.line.specs.Fit.{largest, settingsFit}
 use Rattle.line.specs.declared.Settings.{Settings}
 use Rattle.relay.specs.Asked.{reliable}
-use Rattle.order.specs.Call.{Call}
-use Rattle.order.specs.Call as call
-use Rattle.order.specs.Order.{lineFor}
+use Rattle.calls.specs.Call.{Call}
+use Rattle.calls.specs.Call as call
+use Rattle.calls.specs.Order.{lineFor}
 use Rattle.promise.specs.Build.{Does, Build}
 use Rattle.promise.specs.Past.{Packet, Past}
 use Rattle.promise.specs.Run.{Gateway, freshWith, does, after, accepts, lineAt, Relays, rankedMark, Honest, Run}

@@ -2,8 +2,8 @@
 -- Assumes nothing.
 use Prim.Native.Nat.{ℕ}
 use mathlib.Core.List.{List}
-use Rattle.order.specs.Call.{Call}
-use Rattle.did.specs.Did.{Did, did}
+use Rattle.calls.specs.Call.{Call}
+use Rattle.calls.specs.Did.{Did, did}
 use Rattle.promise.specs.Past.{Past}
 use Rattle.promise.specs.Run.{Gateway}
 use Rattle.promise.specs.Run as run

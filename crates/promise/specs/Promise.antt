@@ -12,7 +12,7 @@ use Rattle.line.specs.Fit.{largest}
 use Rattle.line.specs.Line.{closedLine, receivingOf}
 use Rattle.line.specs.declared.Line.{Line}
 use Rattle.relay.specs.Asked.{reliable}
-use Rattle.order.specs.Call as call
+use Rattle.calls.specs.Call as call
 use Rattle.flow.specs.Flow.{Sends, Receives, Full, waiting}
 use Rattle.promise.specs.Build.{Does}
 use Rattle.promise.specs.Past.{Past, handedPast}

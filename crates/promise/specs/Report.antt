@@ -8,7 +8,7 @@ use Rattle.ground.specs.Answer.{accepted}
 use Rattle.ground.specs.Pick.{pick}
 use Rattle.flow.specs.Flow.{Message, Sends}
 use Rattle.relay.specs.Asked.{reliable}
-use Rattle.order.specs.Call as call
+use Rattle.calls.specs.Call as call
 use Rattle.promise.specs.Build.{Build}
 use Rattle.promise.specs.Run.{Gateway, does, lineAt, Relays}
 use Rattle.promise.specs.Ends.{sendsOf}

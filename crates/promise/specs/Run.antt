@@ -12,13 +12,13 @@ use Rattle.mode.specs.Acts.{Act}
 use Rattle.line.specs.Line.{receivingOf}
 use Rattle.line.specs.declared.Line.{Line}
 use Rattle.line.specs.declared.Settings.{Settings}
-use Rattle.laden.specs.Send.{ranked, heldIn}
+use Rattle.writing.specs.Send.{ranked, heldIn}
 use Rattle.book.specs.Book.{freshBook, lineOf}
 use Rattle.book.specs.declared.Book.{Book}
-use Rattle.order.specs.Call.{Call}
-use Rattle.order.specs.Call as call
-use Rattle.order.specs.Order.{lineFor}
-use Rattle.did.specs.Did.{Did}
+use Rattle.calls.specs.Call.{Call}
+use Rattle.calls.specs.Call as call
+use Rattle.calls.specs.Order.{lineFor}
+use Rattle.calls.specs.Did.{Did}
 use Rattle.flow.specs.Flow.{Message}
 use Rattle.promise.specs.Build.{Does}
 use Rattle.promise.specs.Past.{Mark, Packet, Past, nothingYet, justOpened, tookPast, handedPast, wrotePast, heardPast}

@@ -5,8 +5,8 @@ ghost use mathlib.Core.Path.{_≡_};
 ghost use mathlib.Core.List.{List};
 ghost use Rattle.mode.specs.Acts as act;
 ghost use Rattle.mode.specs.Says.{heardSays, askedSays, tickedSays};
-ghost use Rattle.order.specs.Call as call;
-ghost use Rattle.did.specs.Did.{made, did};
+ghost use Rattle.calls.specs.Call as call;
+ghost use Rattle.calls.specs.Did.{made, did};
 ghost use Rattle.signals.specs.Tries.{Tries};
 use book::Book;
 use ground::Verdict;
@@ -34,7 +34,7 @@ pub struct Ticks {
 pub fn hear(book: Book, line: u8, mode: u8, time: u64) -> Hears
     ensures { λ r. ⌜ ((store out : List ℕ) → made (heardSays (r .answer)) (r .book) store out ≡ did (call.mode line (act.hear mode time)) book store out) ⌝ }
 {
-    let verdict = order::may_move(book, line);
+    let verdict = calls::may_move(book, line);
     match verdict {
         Verdict::Refuse(r) => Hears {
             book,
@@ -42,7 +42,7 @@ pub fn hear(book: Book, line: u8, mode: u8, time: u64) -> Hears
         },
         Verdict::Pass => {
             let l = book.line(line);
-            let heard = indication::hear(l.modes, mode, time);
+            let heard = mode::hear(l.modes, mode, time);
             let answer = heard.answer;
             let channels = heard.channels;
             let stepped = l.stepped(heard.modes, channels);
@@ -56,7 +56,7 @@ pub fn hear(book: Book, line: u8, mode: u8, time: u64) -> Hears
 pub fn ask(book: Book, line: u8, mode: u8, time: u64) -> Asks
     ensures { λ r. ⌜ ((store out : List ℕ) → made (askedSays (r .answer)) (r .book) store out ≡ did (call.mode line (act.ask mode time)) book store out) ⌝ }
 {
-    let verdict = order::may_move(book, line);
+    let verdict = calls::may_move(book, line);
     match verdict {
         Verdict::Refuse(r) => Asks {
             book,
@@ -64,7 +64,7 @@ pub fn ask(book: Book, line: u8, mode: u8, time: u64) -> Asks
         },
         Verdict::Pass => {
             let l = book.line(line);
-            let asked = request::ask(l.modes, mode, time);
+            let asked = mode::ask(l.modes, mode, time);
             let answer = asked.answer;
             let channels = asked.channels;
             let stepped = l.stepped(asked.modes, channels);
@@ -79,7 +79,7 @@ pub fn ask(book: Book, line: u8, mode: u8, time: u64) -> Asks
 pub fn tick(book: Book, line: u8, time: u64) -> Ticks
     ensures { λ r. ⌜ ((store out : List ℕ) → made (tickedSays (r .answer)) (r .book) store out ≡ did (call.mode line (act.tick time)) book store out) × Tries (r .answer) ⌝ }
 {
-    let verdict = order::may_move(book, line);
+    let verdict = calls::may_move(book, line);
     match verdict {
         Verdict::Refuse(r) => Ticks {
             book,
@@ -87,7 +87,7 @@ pub fn tick(book: Book, line: u8, time: u64) -> Ticks
         },
         Verdict::Pass => {
             let l = book.line(line);
-            let ticked = recovery::tick(l.modes, time);
+            let ticked = mode::tick(l.modes, time);
             let answer = ticked.answer;
             let channels = ticked.channels;
             let stepped = l.stepped(ticked.modes, channels);

@@ -13,7 +13,7 @@ use Rattle.ground.specs.declared.Verdict.the-variants.{Pass, Refuse}
 use Rattle.field.specs.Bits.{bitsAt}
 use Rattle.packet.specs.Acks.{acksServed}
 use Rattle.packet.specs.Read.{headRead, acksRead, headAt, numberAt, baseAt, acksAt, ackAt, headAnswer, acksAnswer, payloadOf}
-use Rattle.pack.specs.Write.{packetOctets}
+use Rattle.packet.specs.Write.{packetOctets}
 use Rattle.connect.specs.Spans.{sizeOf, sizesFit}
 use Rattle.connect.specs.Read.{connectRead, connectAt, wayAt}
 use Rattle.connect.specs.Read as connect
@@ -42,13 +42,13 @@ use Rattle.mode.specs.Fit.{modesFit}
 use Rattle.owed.specs.Owed.{member, noTwice, allSpans, owedFits}
 use Rattle.line.specs.Fit.{lineFits}
 use Rattle.line.specs.declared.Settings.{Settings}
-use Rattle.resting.specs.Rest.{allSpan}
+use Rattle.book.specs.Resting.{allSpan}
 use Rattle.book.specs.Book.{freshBook, openIn, linesFit, bookFits}
 use Rattle.book.specs.Rest.{closedAt}
 use Rattle.book.specs.declared.Book.{Book}
-use Rattle.order.specs.Call as call
-use Rattle.order.specs.Order.{openTests, closeTests, tests, lineFor}
-use Rattle.did.specs.Did.{did, done, effect, slipOf}
+use Rattle.calls.specs.Call as call
+use Rattle.calls.specs.Order.{openTests, closeTests, tests, lineFor}
+use Rattle.calls.specs.Did.{did, done, effect, slipOf}
 
 -- 1. Identifier 5, type 98, channel 1, number 0, base 0, payload 41
 abbrev packet-one : List ℕ

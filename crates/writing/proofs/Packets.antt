@@ -19,8 +19,8 @@ use Rattle.ground.proofs.Verdicts.{Holds, passed, passes}
 use Rattle.field.specs.Word.{served}
 use Rattle.packet.specs.Acks.{named, blank, acksServed, acksBlank}
 use Rattle.packet.specs.Read.{sizeFits}
-use Rattle.pack.specs.Write.{packetOctets, numbersPlaced, fieldsFit, writeTests}
-use Rattle.pack.proofs.Writes.{packet-length}
+use Rattle.packet.specs.Write.{packetOctets, numbersPlaced, fieldsFit, writeTests}
+use Rattle.packet.proofs.Writes.{packet-length}
 use Rattle.owed.specs.Owed.{owedOf, firstThree, allSpans, owedFits}
 use Rattle.owed.proofs.Steps.{owed-ok}
 use Rattle.line.specs.Fit.{largest, lineFits}

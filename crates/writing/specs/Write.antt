@@ -7,7 +7,7 @@ use Rattle.ground.specs.Pick.{pick}
 use Rattle.ground.specs.Refusal.{Test, must}
 use Rattle.ground.specs.declared.Refusal.the-variants.{CHANNEL, ROOM}
 use Rattle.channel.specs.Channel.{modulus}
-use Rattle.pack.specs.Write.{packetOctets}
+use Rattle.packet.specs.Write.{packetOctets}
 use Rattle.packet.specs.declared.Head.{Head}
 use Rattle.packet.specs.declared.Acks.{Acks}
 use Rattle.owed.specs.Owed.{firstThree, withoutThree}

@@ -17,11 +17,23 @@ use ground::Written;
 use line::Line;
 use packet::Acks;
 use packet::Head;
+use sending::Held;
+
+mod held; // held.rt: a held message written
+
+pub use held::may_send;
+pub use held::send;
 
 // What a call that writes a packet leaves: the line, and how many octets were written.
 pub struct Sent {
     pub line: Line,
     pub answer: Written,
+}
+
+// The held message that may be written, or why none may.
+pub enum MaySend {
+    Message(Held),
+    Refused(Refusal),
 }
 
 // The acknowledgements that the next packet carries.
@@ -106,7 +118,7 @@ pub fn write_empty(l: Line, channel: u8, out: &mut [u8]) -> Sent
     let none = [0u8; 1];
     let head = head_for(l, channel, 0);
     let acks = acks_for(l);
-    let answer = pack::write_packet(out, head, acks, &none[..0], 132);
+    let answer = packet::write_packet(out, head, acks, &none[..0], 132);
     let line = wrote_line(l);
     Sent { line, answer }
 }

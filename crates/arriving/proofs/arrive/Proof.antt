@@ -1,7 +1,7 @@
-use Rattle.effect.proofs.Effects.{heard-relaying}
+use Rattle.arriving.proofs.Effects.{heard-relaying}
 use Rattle.arriving.proofs.Arrivals.{payload-rest, news-relaying, head-is, head-there, list-is, list-there, number-lt, acks-few, arrive-relaying, arrive-list, arrive-size, arrive-reliable, news-all, store-all, payload-line, payload-store, payload-length}
 use Prim.Native.Nat.{_≤_, _<_, ℕ}
-use Rattle.effect.specs.Effect.{Relaying, heardLine, ackedAll, storedLine, storedStore}
+use Rattle.arriving.specs.Effect.{Relaying, heardLine, ackedAll, storedLine, storedStore}
 use Rattle.arriving.specs.Arrive.{newsLine}
 use Rattle.packet.specs.declared.Head.{Head}
 use Rattle.packet.specs.Read.{headAt, acksAt, headerAt, payloadOf}

@@ -1,9 +1,9 @@
 use Rattle.gateway.proofs.Slips.{slip-passes}
-use Rattle.did.proofs.Dids.{did-refused, did-done}
-use Rattle.did.specs.Did.{made, done, effect, slipOf}
-use Rattle.order.proofs.Firsts.{line-passed}
-use Rattle.order.specs.Order.{closeTests, tests, lineFor}
-use Rattle.order.specs.Call as call
+use Rattle.calls.proofs.Dids.{did-refused, did-done}
+use Rattle.calls.specs.Did.{made, done, effect, slipOf}
+use Rattle.calls.proofs.Firsts.{line-passed}
+use Rattle.calls.specs.Order.{closeTests, tests, lineFor}
+use Rattle.calls.specs.Call as call
 use Rattle.book.specs.Book.{lineOf}
 use Rattle.writing.proofs.Packets.{written-out}
 use Rattle.line.specs.declared.Line.{Line}

@@ -1,8 +1,8 @@
-use Rattle.did.proofs.Dids.{did-refused, did-done}
-use Rattle.did.specs.Did.{made, done, effect}
-use Rattle.order.proofs.Firsts.{line-passed}
-use Rattle.order.specs.Order.{openTests, tests, lineFor}
-use Rattle.order.specs.Call as call
+use Rattle.calls.proofs.Dids.{did-refused, did-done}
+use Rattle.calls.specs.Did.{made, done, effect}
+use Rattle.calls.proofs.Firsts.{line-passed}
+use Rattle.calls.specs.Order.{openTests, tests, lineFor}
+use Rattle.calls.specs.Call as call
 use Rattle.book.specs.declared.Book.{Book}
 use Rattle.book.specs.Book.{withLine}
 use Rattle.line.specs.declared.Line.{Line}

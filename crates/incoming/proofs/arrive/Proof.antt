@@ -1,8 +1,8 @@
 use Rattle.incoming.proofs.Passing.{arrive-refuses, arrive-passes, arrive-line, arrive-addressed}
-use Rattle.did.proofs.Dids.{did-refused, did-done}
-use Rattle.did.specs.Did.{made, done, effect}
-use Rattle.order.specs.Order.{tests, lineFor}
-use Rattle.order.specs.Call as call
+use Rattle.calls.proofs.Dids.{did-refused, did-done}
+use Rattle.calls.specs.Did.{made, done, effect}
+use Rattle.calls.specs.Order.{tests, lineFor}
+use Rattle.calls.specs.Call as call
 use Rattle.book.proofs.Turns.{many}
 use Rattle.book.specs.Book.{lineOf, withLine}
 use Rattle.arriving.specs.Arrive.{arrivedLine, arrivedStore}

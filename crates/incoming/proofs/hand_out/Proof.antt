@@ -1,9 +1,9 @@
 use Rattle.incoming.proofs.Passing.{handed-length}
-use Rattle.did.proofs.Dids.{did-refused, did-done}
-use Rattle.did.specs.Did.{made, done, effect}
-use Rattle.order.proofs.Firsts.{both-passed}
-use Rattle.order.specs.Order.{tests, lineFor}
-use Rattle.order.specs.Call as call
+use Rattle.calls.proofs.Dids.{did-refused, did-done}
+use Rattle.calls.specs.Did.{made, done, effect}
+use Rattle.calls.proofs.Firsts.{both-passed}
+use Rattle.calls.specs.Order.{tests, lineFor}
+use Rattle.calls.specs.Call as call
 use Rattle.book.specs.Book.{lineOf, withLine}
 use Rattle.relay.proofs.Lines.{hand-first}
 use Rattle.relay.specs.HandOut.{handCallTests, handedLine, handedOctets}

@@ -1,10 +1,10 @@
 use Rattle.outgoing.proofs.Passing.{send-refuses, send-passes, send-is, send-on, sendable}
-use Rattle.did.proofs.Dids.{did-refused, did-done}
-use Rattle.did.specs.Did.{made, done, effect}
-use Rattle.order.specs.Order.{tests, lineFor}
-use Rattle.order.specs.Call as call
+use Rattle.calls.proofs.Dids.{did-refused, did-done}
+use Rattle.calls.specs.Did.{made, done, effect}
+use Rattle.calls.specs.Order.{tests, lineFor}
+use Rattle.calls.specs.Call as call
 use Rattle.book.specs.Book.{withLine}
-use Rattle.laden.specs.Send.{heldPacket}
+use Rattle.writing.specs.Send.{heldPacket}
 use Rattle.writing.specs.Write.{wroteLine}
 use Rattle.line.specs.declared.Line.{Line}
 use Rattle.ground.specs.declared.Written.the-variants.{Wrote}

@@ -1,8 +1,8 @@
-use Rattle.did.proofs.Dids.{did-refused, moved-did}
-use Rattle.did.specs.Did.{made}
-use Rattle.order.proofs.Firsts.{line-passed}
-use Rattle.order.specs.Order.{fitBook, lineNumber, isOpen, actTests, modeTests, tests}
-use Rattle.order.specs.Call as call
+use Rattle.calls.proofs.Dids.{did-refused, moved-did}
+use Rattle.calls.specs.Did.{made}
+use Rattle.calls.proofs.Firsts.{line-passed}
+use Rattle.calls.specs.Order.{fitBook, lineNumber, isOpen, actTests, modeTests, tests}
+use Rattle.calls.specs.Call as call
 use Rattle.ground.proofs.Verdicts.{verdict-stop}
 use Rattle.book.specs.Book.{lineOf, withLine}
 use Rattle.line.specs.declared.Line.{Line}

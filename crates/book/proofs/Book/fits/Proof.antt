@@ -1,7 +1,7 @@
 use Rattle.book.proofs.Facts.{once-is}
 use Rattle.book.specs.Book.{linesFit, restingOf, bookFits}
-use Rattle.resting.specs.Rest.{allSpan}
-use Rattle.resting.specs.Marks.{newIn}
+use Rattle.book.specs.Resting.{allSpan}
+use Rattle.book.specs.Marks.{newIn}
 use mathlib.Core.Path.{_≡_, sym, ap₂, _∙_}
 use mathlib.Core.Bool.{Bool, true, _&&_}
 use mathlib.Core.List.{List}

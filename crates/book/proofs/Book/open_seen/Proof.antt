@@ -1,7 +1,7 @@
 use Rattle.book.proofs.Facts.{open-at}
-use Rattle.resting.proofs.Once.{Comes, comes-one, comes-end}
+use Rattle.book.proofs.Once.{Comes, comes-one, comes-end}
 use Rattle.book.proofs.Turns.{many, open-here, open-on, open-end}
-use Rattle.resting.specs.Marks.{newIn, marked, none}
+use Rattle.book.specs.Marks.{newIn, marked, none}
 use Rattle.book.specs.Book.{openIn}
 use lib.ListN.{length, drop}
 use mathlib.Core.Path.{_≡_, refl}

@@ -1,0 +1,3 @@
+pub mod Firsts
+pub mod Dids
+pub mod Refusing

@@ -1,0 +1,37 @@
+use Rattle.calls.specs.Order.{fitBook, lineNumber, isOpen, closeTests}
+use Rattle.book.specs.Book.{lineOf}
+use Rattle.ground.proofs.Verdicts.{verdict-on, verdict-stop}
+use Rattle.ground.specs.declared.Refusal.the-variants.{ROOM}
+use Rattle.ground.specs.Refusal.{must}
+use lib.Dec.{leb}
+use mathlib.Core.List.{[], _∷_}
+use mathlib.Core.Path.{sym, _∙_}
+use borrow.Author.Tests.{le-leb, lt-leb}
+use borrow.Author.Needs.{needs}
+use Rattle.calls.proofs.may_close.Statement.{statement}
+use Rattle.calls.proofs.may_close.Tie as tie
+
+may-move-requires : tie.Need-may-move-requires
+may-move-requires c κs = search needs
+
+enum-known-first : tie.Need-enum-known-first
+enum-known-first c = search needs
+
+enum-told : tie.Need-enum-told
+enum-told c = search needs
+
+returns : tie.Need-returns
+unfolding closeTests
+returns c = sym (verdict-stop (fitBook (c .before .before .before .before .args .book) ∷ lineNumber (c .before .before .before .before .args .line) ∷ isOpen (lineOf (c .before .before .before .before .args .book) (c .before .before .before .before .args .line)) ∷ []) (must (leb 12 (c .before .before .before .before .args .room)) ROOM ∷ []) (sym (c .before .before .before .may-move .ensures) ∙ c .before .first .given .1))
+
+returns-2 : tie.Need-returns-2
+unfolding closeTests
+returns-2 c = sym (verdict-on (fitBook (c .before .before .before .before .args .book) ∷ lineNumber (c .before .before .before .before .args .line) ∷ isOpen (lineOf (c .before .before .before .before .args .book) (c .before .before .before .before .args .line)) ∷ []) (must (leb 12 (c .before .before .before .before .args .room)) ROOM ∷ []) (sym (c .before .before .before .may-move .ensures) ∙ c .before .enum-told .given .1) ∙ simp (le-leb _ _ (c .if1 .taken)))
+
+returns-3 : tie.Need-returns-3
+unfolding closeTests
+returns-3 c = sym (verdict-on (fitBook (c .before .before .before .before .args .book) ∷ lineNumber (c .before .before .before .before .args .line) ∷ isOpen (lineOf (c .before .before .before .before .args .book) (c .before .before .before .before .args .line)) ∷ []) (must (leb 12 (c .before .before .before .before .args .room)) ROOM ∷ []) (sym (c .before .before .before .may-move .ensures) ∙ c .before .enum-told .given .1) ∙ simp (lt-leb _ _ (c .if1 .left)))
+
+pub may-close-spec : {M : Type 1} → statement M
+may-close-spec =
+    tie.close (tie.spec may-move-requires enum-known-first enum-told returns returns-2 returns-3)

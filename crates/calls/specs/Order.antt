@@ -1,0 +1,105 @@
+-- The paragraph 'Order', call by call: each list names the refusals of a call in their order, and when each is given.
+-- Assumes nothing.
+use Prim.Native.Nat.{ℕ}
+use mathlib.Core.Bool.{Bool, true, false, not}
+use mathlib.Core.List.{List, [], _∷_, _++_}
+use lib.Dec.{leb}
+use lib.ListN.{length}
+use Rattle.ground.specs.Refusal.{Test, must}
+use Rattle.ground.specs.declared.Refusal.the-variants.{NOLINE, ROOM, TAKEN, RANGE, BOOK}
+use Rattle.packet.specs.Read.{headAt, headTests}
+use Rattle.mode.specs.Acts.{Act}
+use Rattle.mode.specs.Acts as act
+use Rattle.mode.specs.Indication.{hearTests}
+use Rattle.mode.specs.Request.{askTests}
+use Rattle.mode.specs.Recovery.{tickTests}
+use Rattle.mode.specs.declared.Modes.{Modes}
+use Rattle.line.specs.Fit.{settingsFit}
+use Rattle.line.specs.declared.Line.{Line}
+use Rattle.line.specs.declared.Settings.{Settings}
+use Rattle.relay.specs.Asked.{relayTests}
+use Rattle.relay.specs.Take.{takeCallTests}
+use Rattle.relay.specs.HandOut.{handCallTests}
+use Rattle.writing.specs.Write.{emptyTests}
+use Rattle.writing.specs.Send.{sendTests}
+use Rattle.arriving.specs.Arrive.{arriveTests}
+use Rattle.book.specs.Book.{lineOf, bookFits, whose, taken}
+use Rattle.book.specs.declared.Book.{Book}
+use Rattle.book.specs.declared.Whose.{Whose}
+use Rattle.book.specs.declared.Whose.the-variants.{At, Nobody}
+use Rattle.calls.specs.Call.{Call}
+use Rattle.calls.specs.Call as call
+
+-- "Any call with a book: BOOK, then ROOM for the store if lent, then a line number over 3 as RANGE, then the rest."
+abbrev pub fitBook : Book → Test
+fitBook b = must (bookFits b) BOOK
+
+abbrev pub roomy : ℕ → Test
+roomy store = must (leb 42240 store) ROOM
+
+abbrev pub lineNumber : ℕ → Test
+lineNumber i = must (leb i 3) RANGE
+
+abbrev pub isOpen : Line → Test
+isOpen l = must (l .opened) NOLINE
+
+-- "Opening: TAKEN for the line, RANGE, TAKEN for the identifier."
+unfoldable pub openTests : Book → ℕ → Settings → List Test
+openTests b i s = must (not (lineOf b i .opened)) TAKEN ∷ must (settingsFit (s .identifier) (s .kind)) RANGE ∷ must (not (taken b (s .identifier))) TAKEN ∷ []
+
+-- "Closing: NOLINE, ROOM."; a slip has 12 octets
+unfoldable pub closeTests : Line → ℕ → List Test
+closeTests l room = isOpen l ∷ must (leb 12 room) ROOM ∷ []
+
+-- "Mode calls: NOLINE, CLOCK, RECOVERY, RANGE, MODE."
+abbrev pub actTests : Modes → Act → List Test
+actTests m (act.hear mode time) = hearTests m mode time
+actTests m (act.ask mode time) = askTests m mode time
+actTests m (act.tick time) = tickTests m time
+
+unfoldable pub modeTests : Line → Act → List Test
+modeTests l a = isOpen l ∷ actTests (l .modes) a
+
+-- the open line that has the packet's identifier: "Taking the line from the caller and not from the packet's identifier" is an error
+abbrev pub packetLine : Book → List ℕ → Whose
+packetLine b s = whose b (headAt s .identifier)
+
+abbrev pub isSomebody : Whose → Bool
+isSomebody (At i) = true
+isSomebody Nobody = false
+
+abbrev pub lineAt : Whose → ℕ
+lineAt (At i) = i
+lineAt Nobody = 0
+
+-- "Arrival: SHORT for 6 octets, FORM, NOLINE,"
+unfoldable pub addressTests : Book → List ℕ → List Test
+addressTests b s = headTests s ++ (must (isSomebody (packetLine b s)) NOLINE ∷ [])
+
+-- "TYPE, MODE, SHORT for the list, CHANNEL, SIZE."
+unfoldable pub arrivalTests : Book → List ℕ → List Test
+arrivalTests b s = addressTests b s ++ arriveTests (lineOf b (lineAt (packetLine b s))) s
+
+-- the line that a call is for
+unfoldable pub lineFor : Call → Book → ℕ
+lineFor (call.opening i s time) b = i
+lineFor (call.closing i) b = i
+lineFor (call.mode i a) b = i
+lineFor (call.taking i channel message) b = i
+lineFor (call.sending i channel rank) b = i
+lineFor (call.empty i channel) b = i
+lineFor (call.arrival s) b = lineAt (packetLine b s)
+lineFor (call.handOut i channel) b = i
+lineFor (call.report i channel) b = i
+
+-- every call's tests, in order. Of the store and of the output only the length counts.
+unfoldable pub tests : Call → Book → ℕ → ℕ → List Test
+tests (call.opening i s time) b store room = fitBook b ∷ lineNumber i ∷ openTests b i s
+tests (call.closing i) b store room = fitBook b ∷ lineNumber i ∷ closeTests (lineOf b i) room
+tests (call.mode i a) b store room = fitBook b ∷ lineNumber i ∷ modeTests (lineOf b i) a
+tests (call.taking i channel message) b store room = fitBook b ∷ roomy store ∷ lineNumber i ∷ takeCallTests (lineOf b i) channel (length message)
+tests (call.sending i channel rank) b store room = fitBook b ∷ roomy store ∷ lineNumber i ∷ sendTests (lineOf b i) channel rank room
+tests (call.empty i channel) b store room = fitBook b ∷ lineNumber i ∷ emptyTests (lineOf b i) channel room
+tests (call.arrival s) b store room = fitBook b ∷ roomy store ∷ arrivalTests b s
+tests (call.handOut i channel) b store room = fitBook b ∷ roomy store ∷ lineNumber i ∷ handCallTests (lineOf b i) channel room
+tests (call.report i channel) b store room = fitBook b ∷ lineNumber i ∷ relayTests (lineOf b i) channel

@@ -1,0 +1,129 @@
+// The order of refusals: document 01, the paragraph 'Order'. Each function here is a verdict on a book: what every call asks
+// first, all that opening and closing ask before they make their effect, and of the mode calls what they ask of the book, up to
+// NOLINE; CLOCK to MODE stand in `indication`, `request` and `recovery`. Of the store and of the output only the length counts.
+ghost use mathlib.Core.Path.{_≡_};
+ghost use Prim.Native.Nat.{_≤_, _<_};
+ghost use mathlib.Core.List.{[], _∷_};
+ghost use Rattle.ground.specs.Refusal.{verdict};
+ghost use Rattle.book.specs.Book.{lineOf};
+ghost use Rattle.calls.specs.Order.{fitBook, roomy, lineNumber, isOpen, openTests, closeTests};
+use book::Book;
+use ground::Refusal;
+use ground::Verdict;
+use ground::Written;
+use line::Settings;
+use store::Region;
+
+// What a call leaves that writes into an output: how many octets were written there.
+pub struct Gave {
+    pub book: Book,
+    pub answer: Written,
+}
+
+// BOOK, RANGE for the line.
+pub fn on_line(book: Book, line: u8) -> Verdict
+    ensures { λ r. ⌜ r ≡ verdict (fitBook book ∷ lineNumber line ∷ []) ⌝ }
+{
+    if !book.fits() {
+        return Verdict::Refuse(Refusal::BOOK);
+    }
+    if line <= 3 {
+        Verdict::Pass
+    } else {
+        Verdict::Refuse(Refusal::RANGE)
+    }
+}
+
+// BOOK, ROOM for the store.
+pub fn on_store(book: Book, store: usize) -> Verdict
+    ensures { λ r. ⌜ r ≡ verdict (fitBook book ∷ roomy store ∷ []) ⌝ }
+{
+    if !book.fits() {
+        return Verdict::Refuse(Refusal::BOOK);
+    }
+    if Region::LENGTH <= store {
+        Verdict::Pass
+    } else {
+        Verdict::Refuse(Refusal::ROOM)
+    }
+}
+
+// BOOK, ROOM for the store, RANGE for the line.
+pub fn on_both(book: Book, store: usize, line: u8) -> Verdict
+    ensures { λ r. ⌜ r ≡ verdict (fitBook book ∷ roomy store ∷ lineNumber line ∷ []) ⌝ }
+{
+    let first = on_store(book, store);
+    match first {
+        Verdict::Refuse(r) => Verdict::Refuse(r),
+        Verdict::Pass => {
+            if line <= 3 {
+                Verdict::Pass
+            } else {
+                Verdict::Refuse(Refusal::RANGE)
+            }
+        }
+    }
+}
+
+// What opening asks of a line number within its range: TAKEN for the line, RANGE, TAKEN for the identifier.
+fn may_open_line(book: Book, line: u8, settings: Settings) -> Verdict
+    requires { ⌜ (line < 4) × (book .rested ≤ 16) ⌝ }
+    ensures { λ r. ⌜ r ≡ verdict (openTests book line settings) ⌝ }
+{
+    if book.line(line).opened {
+        return Verdict::Refuse(Refusal::TAKEN);
+    }
+    if !line::settings_fit(settings.identifier, settings.kind) {
+        return Verdict::Refuse(Refusal::RANGE);
+    }
+    if book.taken(settings.identifier) {
+        Verdict::Refuse(Refusal::TAKEN)
+    } else {
+        Verdict::Pass
+    }
+}
+
+// May a line be opened? BOOK, RANGE for the line, TAKEN for the line, RANGE, TAKEN for the identifier.
+pub fn may_open(book: Book, line: u8, settings: Settings) -> Verdict
+    ensures { λ r. ⌜ r ≡ verdict (fitBook book ∷ lineNumber line ∷ openTests book line settings) ⌝ }
+{
+    let first = on_line(book, line);
+    match first {
+        Verdict::Refuse(r) => Verdict::Refuse(r),
+        Verdict::Pass => may_open_line(book, line, settings),
+    }
+}
+
+// May a line be closed? BOOK, RANGE for the line, NOLINE, ROOM for the slip.
+pub fn may_close(book: Book, line: u8, room: usize) -> Verdict
+    ensures { λ r. ⌜ r ≡ verdict (fitBook book ∷ lineNumber line ∷ closeTests (lineOf book line) room) ⌝ }
+{
+    let first = may_move(book, line);
+    match first {
+        Verdict::Refuse(r) => Verdict::Refuse(r),
+        Verdict::Pass => {
+            if 12 <= room {
+                Verdict::Pass
+            } else {
+                Verdict::Refuse(Refusal::ROOM)
+            }
+        }
+    }
+}
+
+// What a mode call asks before its own tests: BOOK, RANGE for the line, NOLINE.
+pub fn may_move(book: Book, line: u8) -> Verdict
+    ensures { λ r. ⌜ r ≡ verdict (fitBook book ∷ lineNumber line ∷ isOpen (lineOf book line) ∷ []) ⌝ }
+{
+    let first = on_line(book, line);
+    match first {
+        Verdict::Refuse(r) => Verdict::Refuse(r),
+        Verdict::Pass => {
+            if book.line(line).opened {
+                Verdict::Pass
+            } else {
+                Verdict::Refuse(Refusal::NOLINE)
+            }
+        }
+    }
+}

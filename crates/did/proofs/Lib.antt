@@ -1,2 +1,0 @@
-pub mod Dids
-pub mod Refusing

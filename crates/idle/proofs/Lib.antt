@@ -1,3 +1,0 @@
-pub mod Idle
-pub mod IdlePackets
-pub mod IdleRuns

@@ -1,0 +1,110 @@
+// A tick, and recovery, which only ticks begin and end by the clock (document 01, 'Media modes'; V.150.1, C.5.4.1).
+// What a tick means is defined in `mode`, with the laws of it. The clock is the caller's.
+ghost use mathlib.Core.Path.{_≡_};
+ghost use mathlib.Core.List.{[], _∷_};
+ghost use Prim.Native.Nat.{_-_};
+ghost use Rattle.ground.specs.Refusal.{verdict};
+ghost use Rattle.mode.specs.Recovery.{tickTests, due, tickedModes, tickedAnswer, tryDue, ticking};
+ghost use Rattle.mode.specs.Says.{tickedSays, says};
+use crate::Channels;
+use crate::Modes;
+use crate::Ticked;
+use crate::Ticking;
+use crate::channels_for;
+use ground::Refusal;
+use ground::Verdict;
+
+// Milliseconds from one time to another; none where that is not the later.
+fn elapsed(from: u64, to: u64) -> u64
+    ensures { λ r. ⌜ r ≡ to - from ⌝ }
+{
+    if from <= to { to - from } else { 0 }
+}
+
+// What refuses a tick: CLOCK.
+fn tick_verdict(modes: Modes, time: u64) -> Verdict
+    ensures { λ r. ⌜ r ≡ verdict (tickTests modes time) ⌝ }
+{
+    if time < modes.last {
+        return Verdict::Refuse(Refusal::CLOCK);
+    }
+    Verdict::Pass
+}
+
+// A try, or the end after the last one, is due.
+fn due(modes: Modes, time: u64) -> bool
+    ensures { λ r. ⌜ r ≡ due modes time ⌝ }
+{
+    if modes.ended() {
+        return false;
+    }
+    if modes.tries == 0 {
+        (modes.local != modes.remote) & (Modes::BORNE < elapsed(modes.since, time))
+    } else {
+        Modes::REPEAT <= elapsed(modes.tried, time)
+    }
+}
+
+// The record after a tick.
+fn ticked_modes(modes: Modes, time: u64) -> Modes
+    ensures { λ r. ⌜ r ≡ tickedModes modes time ⌝ }
+{
+    if due(modes, time) {} else {
+        return modes.stayed(time);
+    }
+    let tries = modes.tries;
+    if tries == 0 {
+        return modes
+            .moved(Modes::AUDIO, Modes::UNKNOWN, time)
+            .trying(1, time);
+    }
+    if tries == Modes::TRIES {
+        return modes.stayed(time).trying(Modes::ENDED, modes.tried);
+    }
+    modes.stayed(time).trying(tries + 1, time)
+}
+
+// What a tick answers.
+fn ticked_answer(modes: Modes, time: u64) -> Ticked
+    ensures { λ r. ⌜ r ≡ tickedAnswer modes time ⌝ }
+{
+    if modes.ended() {
+        return Ticked::Ended;
+    }
+    if due(modes, time) {} else {
+        return Ticked::Quiet;
+    }
+    let tries = modes.tries;
+    if tries == Modes::TRIES {
+        return Ticked::Ended;
+    }
+    Ticked::Audio(tries + 1)
+}
+
+// A tick of the caller's clock.
+pub fn tick(modes: Modes, time: u64) -> Ticking
+    ensures { λ r. ⌜ r ≡ ticking modes time ⌝ }
+    ensures said { λ r. ⌜ tickedSays (r .answer) ≡ says (verdict (tickTests modes time)) (tryDue modes time ∷ []) ⌝ }
+{
+    match tick_verdict(modes, time) {
+        Verdict::Pass => {
+            let answer = ticked_answer(modes, time);
+            let next = ticked_modes(modes, time);
+            let channels = channels_for(modes.local, next.local);
+            Ticking {
+                answer,
+                modes: next,
+                channels,
+            }
+        }
+        Verdict::Refuse(why) => {
+            let answer = Ticked::Refused(why);
+            let channels = Channels::Stay;
+            Ticking {
+                answer,
+                modes,
+                channels,
+            }
+        }
+    }
+}

@@ -1,0 +1,71 @@
+// A local request (document 01, 'Media modes'): its refusals and the call. What it means is defined in `mode`, with the laws of it.
+// Why a line's own side asks is the caller's.
+ghost use mathlib.Core.Path.{_≡_};
+ghost use mathlib.Core.List.{[], _∷_};
+ghost use Rattle.ground.specs.Refusal.{verdict};
+ghost use Rattle.mode.specs.Given.{offered};
+ghost use Rattle.mode.specs.Request.{askTests, asking};
+ghost use Rattle.mode.specs.Says.{askedSays, says};
+use crate::Asked;
+use crate::Asking;
+use crate::Channels;
+use crate::Modes;
+use crate::channels_for;
+use ground::Refusal;
+use ground::Verdict;
+
+// A mode that a request may name: a, and v and m where they are offered.
+fn offers(modes: Modes, mode: u8) -> bool
+    ensures { λ r. ⌜ r ≡ offered modes mode ⌝ }
+{
+    (mode == Modes::AUDIO)
+        | ((mode == Modes::VOICEBAND) & modes.vbd)
+        | ((mode == Modes::MODEM) & modes.relay)
+}
+
+// What refuses a request: CLOCK, RECOVERY, RANGE, MODE.
+fn ask_verdict(modes: Modes, mode: u8, time: u64) -> Verdict
+    ensures { λ r. ⌜ r ≡ verdict (askTests modes mode time) ⌝ }
+{
+    if time < modes.last {
+        return Verdict::Refuse(Refusal::CLOCK);
+    }
+    if modes.tries == 0 {} else {
+        return Verdict::Refuse(Refusal::RECOVERY);
+    }
+    if offers(modes, mode) {} else {
+        return Verdict::Refuse(Refusal::RANGE);
+    }
+    if (mode == Modes::MODEM) & modes.left {
+        return Verdict::Refuse(Refusal::MODE);
+    }
+    Verdict::Pass
+}
+
+// A mode is requested at a time, by the line's own side.
+pub fn ask(modes: Modes, mode: u8, time: u64) -> Asking
+    ensures { λ r. ⌜ r ≡ asking modes mode time ⌝ }
+    ensures said { λ r. ⌜ askedSays (r .answer) ≡ says (verdict (askTests modes mode time)) (mode ∷ []) ⌝ }
+{
+    match ask_verdict(modes, mode, time) {
+        Verdict::Pass => {
+            let answer = Asked::Mode(mode);
+            let next = modes.moved(mode, modes.remote, time);
+            let channels = channels_for(modes.local, mode);
+            Asking {
+                answer,
+                modes: next,
+                channels,
+            }
+        }
+        Verdict::Refuse(why) => {
+            let answer = Asked::Refused(why);
+            let channels = Channels::Stay;
+            Asking {
+                answer,
+                modes,
+                channels,
+            }
+        }
+    }
+}

@@ -1,0 +1,45 @@
+use Rattle.calls.proofs.Firsts.{on-line}
+use Rattle.calls.specs.Order.{fitBook, lineNumber}
+use Rattle.book.specs.Book.{lineOf}
+use Rattle.relay.specs.Asked.{relayTests}
+use Rattle.line.specs.declared.Line.{Line}
+use Rattle.ground.proofs.Verdicts.{verdict-on, verdict-stop}
+use Rattle.ground.specs.Refusal.{verdict}
+use mathlib.Core.List.{[], _∷_}
+use mathlib.Core.Path.{sym, ap, _∙_}
+use borrow.Author.Needs.{needs}
+use Rattle.outgoing.proofs.verdicts.may_report.Statement.{statement}
+use Rattle.outgoing.proofs.verdicts.may_report.Tie as tie
+
+on-line-requires : tie.Need-on-line-requires
+on-line-requires c κs = search needs
+
+enum-known-first : tie.Need-enum-known-first
+enum-known-first c = search needs
+
+enum-told : tie.Need-enum-told
+enum-told c = search needs
+
+line-requires : tie.Need-line-requires
+line-requires c κs = on-line (c .before .before .before .args .book) (c .before .before .before .args .line) (sym (c .before .before .on-line .ensures) ∙ c .enum-told .given .1) .number
+
+asked-requires : tie.Need-asked-requires
+asked-requires c κs = search needs
+
+returns : tie.Need-returns
+returns c = let a = c .before .before .before .before .args in sym (verdict-stop (fitBook (a .book) ∷ lineNumber (a .line) ∷ []) (relayTests (lineOf (a .book) (a .line)) (a .channel)) (sym (c .before .before .before .on-line .ensures) ∙ c .before .first .given .1))
+
+returns-2 : tie.Need-returns-2
+returns-2 c = let a = c .before .before .before .before .before .args in c .asked .ensures ∙ ap (λ (l : Line). verdict (relayTests l (a .channel))) (c .before .line .ensures) ∙ sym (verdict-on (fitBook (a .book) ∷ lineNumber (a .line) ∷ []) (relayTests (lineOf (a .book) (a .line)) (a .channel)) (sym (c .before .before .before .before .on-line .ensures) ∙ c .before .before .enum-told .given .1))
+
+pub may-report-spec : {M : Type 1} → statement M
+may-report-spec =
+    tie.close
+    (tie.spec
+    on-line-requires
+    enum-known-first
+    enum-told
+    line-requires
+    asked-requires
+    returns
+    returns-2)

@@ -1,0 +1,59 @@
+// The verdicts of the calls by which messages go out: document 01, the paragraph 'Order'. Of the store and of the output only the
+// length counts. What an accepted call does stands beside this file, in lib.rt.
+ghost use mathlib.Core.Path.{_≡_};
+ghost use mathlib.Core.List.{_∷_};
+ghost use Rattle.ground.specs.Refusal.{verdict, settle};
+ghost use Rattle.relay.specs.Asked.{relayTests};
+ghost use Rattle.relay.specs.Take.{takeCallTests};
+ghost use Rattle.writing.specs.Write.{emptyTests};
+ghost use Rattle.writing.specs.Send.{sendTests, ranked, heldIn};
+ghost use Rattle.writing.specs.declared.MaySend.{MaySend};
+ghost use Rattle.book.specs.Book.{lineOf};
+ghost use Rattle.calls.specs.Order.{fitBook, roomy, lineNumber};
+use book::Book;
+use ground::Verdict;
+use writing::MaySend;
+
+// May a message of n octets be taken?
+pub fn may_take(book: Book, store: usize, line: u8, channel: u8, n: usize) -> Verdict
+    ensures { λ r. ⌜ r ≡ verdict (fitBook book ∷ roomy store ∷ lineNumber line ∷ takeCallTests (lineOf book line) channel n) ⌝ }
+{
+    let first = calls::on_both(book, store, line);
+    match first {
+        Verdict::Refuse(r) => Verdict::Refuse(r),
+        Verdict::Pass => relay::may_take(book.line(line), channel, n),
+    }
+}
+
+// May the held message of that rank be written into `room` octets, and which is it?
+pub fn may_send(book: Book, store: usize, line: u8, channel: u8, rank: u8, room: usize) -> MaySend
+    ensures { λ r. ⌜ r ≡ settle (verdict (fitBook book ∷ roomy store ∷ lineNumber line ∷ sendTests (lineOf book line) channel rank room)) MaySend.Refused (MaySend.Message (heldIn (ranked (lineOf book line) channel rank))) ⌝ }
+{
+    let first = calls::on_both(book, store, line);
+    match first {
+        Verdict::Refuse(r) => MaySend::Refused(r),
+        Verdict::Pass => writing::may_send(book.line(line), channel, rank, room),
+    }
+}
+
+// May an empty packet be written into `room` octets?
+pub fn may_write_empty(book: Book, line: u8, channel: u8, room: usize) -> Verdict
+    ensures { λ r. ⌜ r ≡ verdict (fitBook book ∷ lineNumber line ∷ emptyTests (lineOf book line) channel room) ⌝ }
+{
+    let first = calls::on_line(book, line);
+    match first {
+        Verdict::Refuse(r) => Verdict::Refuse(r),
+        Verdict::Pass => writing::may_write_empty(book.line(line), channel, room),
+    }
+}
+
+// May the held messages be reported?
+pub fn may_report(book: Book, line: u8, channel: u8) -> Verdict
+    ensures { λ r. ⌜ r ≡ verdict (fitBook book ∷ lineNumber line ∷ relayTests (lineOf book line) channel) ⌝ }
+{
+    let first = calls::on_line(book, line);
+    match first {
+        Verdict::Refuse(r) => Verdict::Refuse(r),
+        Verdict::Pass => relay::asked(book.line(line), channel),
+    }
+}

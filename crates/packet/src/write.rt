@@ -1,0 +1,109 @@
+// A relay packet written: document 01, section 'Packets'. What the values are, and how they are read, is `packet`'s.
+ghost use mathlib.Core.Path.{_≡_};
+ghost use lib.ListN.{length};
+ghost use Prim.Native.Nat.{_+_, _*_};
+ghost use lib.Seq.{sets};
+ghost use Rattle.ground.specs.Refusal.{verdict};
+ghost use Rattle.ground.specs.Answer.{Writes};
+ghost use Rattle.field.specs.Layout.{packed, Room};
+ghost use Rattle.packet.specs.Acks.{blank, acksBlank};
+ghost use Rattle.packet.specs.Write.{layout, fixedFields, numbersPlaced, fieldsFit, writeTests, packetOctets};
+use crate::Acks;
+use crate::Head;
+use ground::Refusal;
+use ground::Verdict;
+use ground::Written;
+
+fn ack_blank(n: u8, k: u8, w: u16) -> bool
+    ensures { λ r. ⌜ r ≡ blank n k w ⌝ }
+{
+    if k < n { true } else { w == 0 }
+}
+
+// Is each that is not there 0?
+fn acks_blank(a: Acks) -> bool
+    ensures { λ r. ⌜ r ≡ acksBlank a ⌝ }
+{
+    let n = a.count;
+    ack_blank(n, 0, a.first) & ack_blank(n, 1, a.second) & ack_blank(n, 2, a.third)
+}
+
+// Are numbers that have no place 0? n is the payload's length.
+fn numbers_placed(h: Head, n: usize) -> bool
+    ensures { λ r. ⌜ r ≡ numbersPlaced h n ⌝ }
+{
+    if h.channel == 0 {
+        return (h.number == 0) & (h.base == 0);
+    }
+    if n == 0 {
+        return h.number == 0;
+    }
+    true
+}
+
+fn fields_fit(h: Head, a: Acks, n: usize) -> bool
+    ensures { λ r. ⌜ r ≡ fieldsFit h a n ⌝ }
+{
+    let blank = acks_blank(a);
+    let placed = numbers_placed(h, n);
+    (h.identifier < 128)
+        & (h.kind < 128)
+        & (h.number < 16384)
+        & (h.base < 16384)
+        & (a.count <= 3)
+        & blank
+        & placed
+}
+
+fn write_verdict(h: Head, a: Acks, payload: &[u8], largest: usize, room: usize) -> Verdict
+    ensures { λ r. ⌜ r ≡ verdict (writeTests h a (now (payload .entry)) largest room) ⌝ }
+{
+    let n = payload.len();
+    if fields_fit(h, a, n) {} else {
+        return Verdict::Refuse(Refusal::RANGE);
+    }
+    let served = crate::acks_served(a);
+    if (h.channel < 3) & served {} else {
+        return Verdict::Refuse(Refusal::CHANNEL);
+    }
+    if crate::size_fits(h.channel, n, largest) {} else {
+        return Verdict::Refuse(Refusal::SIZE);
+    }
+    if 6 + 2 * (a.count as usize) + n <= room {
+        Verdict::Pass
+    } else {
+        Verdict::Refuse(Refusal::ROOM)
+    }
+}
+
+// Stores the header and answers how many octets that is.
+fn put_header(out: &mut [u8], h: Head, a: Acks) -> usize
+    requires { ⌜ Room (fixedFields h (a .count)) ⌝ }
+    ensures { λ r. ⌜ (r ≡ 6 + 2 * a .count) × (now (out .exit) ≡ sets (now (out .entry)) 0 (packed (layout h a))) ⌝ }
+{
+    let words = [
+        (h.identifier as u16) << 8 | h.kind as u16,
+        (h.channel as u16) << 14 | h.number,
+        (a.count as u16) << 14 | h.base,
+        a.first,
+        a.second,
+        a.third,
+    ];
+    let n = 3 + a.count as usize;
+    field::put_words(out, &words[..n]);
+    2 * n
+}
+
+// Writes a packet: RANGE, CHANNEL, SIZE, ROOM. `largest` is the line's largest message.
+pub fn write_packet(out: &mut [u8], h: Head, a: Acks, payload: &[u8], largest: usize) -> Written
+    ensures { λ r. ⌜ Writes (writeTests h a (now (payload .entry)) largest (length (now (out .entry)))) (packetOctets h a (now (payload .entry))) (now (out .entry)) (now (out .exit)) r ⌝ }
+{
+    match write_verdict(h, a, payload, largest, out.len()) {
+        Verdict::Refuse(r) => Written::Refused(r),
+        Verdict::Pass => {
+            let n = put_header(out, h, a);
+            field::put_octets(out, n, payload);
+            Written::Wrote(n + payload.len())
+        }
+    }
+}

@@ -1,0 +1,89 @@
+-- The idle build that gives a constant packet does not meet demand 2, and a count made up at will does not meet the report's rule: a line or two,
+-- computed, show it.
+-- Assumes nothing.
+use Prim.Native.Nat.{ℕ, _≤_}
+use mathlib.Core.Path.{_≡_, refl, sym, ap, _∙_}
+use mathlib.Core.Bool.{true}
+use mathlib.Core.List.{List, [], _∷_}
+use native.Mathlib.Omega.{arith}
+use lib.Dec.{lit≤, lit<}
+use lib.ListN.{length, drop, replicate, getD}
+use lib.Seq.{take-append-seam}
+use Rattle.ground.specs.Answer.{Answer}
+use Rattle.ground.specs.Every.{every}
+use Rattle.packet.specs.Read.{headAt}
+use Rattle.packet.specs.declared.Head.{Head}
+use Rattle.sending.specs.Sending.{tookOne, sendingFits}
+use Rattle.receiving.specs.Receiving.{receivingFits}
+use Rattle.channel.specs.Sizes as sizes
+use Rattle.owed.specs.Owed.{member, noTwice, allSpans, owedFits}
+use Rattle.mode.specs.Fit.{modesFit}
+use Rattle.mode.specs.Given.{modem}
+use Rattle.mode.specs.Moved.{channelsFor, timed, moved}
+use Rattle.mode.specs.Request.{asking}
+use Rattle.mode.specs.Acts.{ask}
+use Rattle.line.specs.Fit.{lineFits}
+use Rattle.line.specs.Mode.{steppedTo}
+use Rattle.line.specs.declared.Settings.{Settings}
+use Rattle.store.specs.Store.{regionOf}
+use Rattle.relay.specs.Asked.{relayTests}
+use Rattle.relay.specs.Take.{takeCallTests}
+use Rattle.book.specs.Resting.{allSpan}
+use Rattle.book.specs.Book.{freshBook, openIn, linesFit, bookFits}
+use Rattle.calls.specs.Call.{Call}
+use Rattle.calls.specs.Call as call
+use Rattle.calls.specs.Order.{openTests, modeTests, lineFor, tests}
+use Rattle.calls.specs.Did.{did, done, effect}
+use Rattle.laws.specs.Reached.{Turn, reach}
+use Rattle.laws.proofs.Identifiers.{reached-passes}
+use Rattle.promise.specs.Run.{Gateway, accepts, does, given, lineAt}
+use Rattle.promise.specs.Build.{Build}
+use Rattle.promise.specs.Demand2.{Ready, Demand2}
+use Rattle.promise.specs.Report.{heldFrom, Reports}
+use Rattle.refuted.specs.Idle.{constantPacket, madeUp}
+
+-- a store of 42,240 octets, and a line with an identifier
+abbrev pub zeros : List ℕ
+zeros = replicate 42240 0
+
+abbrev pub named : ℕ → Settings
+named identifier = record { identifier = identifier; kind = 98; vbd = true; relay = true }
+
+-- what calls leave of a fresh gateway
+abbrev called : List Turn → Gateway
+called ts = let t = reach freshBook zeros ts in record { book = t .book; store = t .store }
+
+ready : (ts : List Turn) → lineAt (called ts) 0 .opened ≡ true → 42240 ≤ length (called ts .store) → Ready (called ts) 0
+ready ts e l = let k = reached-passes ts zeros in record { fits = k .0; shaped = k .1; long = l; small = lit< tt; opened = e }
+
+abbrev turn : Call → Turn
+turn c = record { call = c; out = [] }
+
+-- line 0 is opened, and a request brings it into modem relay
+abbrev turns : ℕ → List Turn
+turns identifier = turn (call.opening 0 (named identifier) 0) ∷ turn (call.mode 0 (ask modem 0)) ∷ []
+
+abbrev pub there : ℕ → Gateway
+there identifier = called (turns identifier)
+
+-- the packets of two lines do not say the same: no build gives one packet s wherever it writes one
+pub constant-packets-fail : (b : Build) (s : List ℕ) → ((g : Gateway) (out : List ℕ) → accepts (does (b .does) g (call.empty 0 0) out) ≡ true → given (does (b .does) g (call.empty 0 0) out) ≡ s) → Demand2 b → ⊥
+unfolding reach did done effect tests lineFor openTests modeTests bookFits linesFit allSpan openIn lineFits member noTwice allSpans owedFits modesFit sendingFits receivingFits sizes.sizesFit every asking moved timed channelsFor steppedTo
+constant-packets-fail b s same d =
+    let one = d .empty-back (there 5) 0 (ready (turns 5) refl (lit≤ tt)) refl 0 (lit≤ tt) (replicate 12 0) (lit≤ tt) in
+    let other = d .empty-back (there 6) 0 (ready (turns 6) refl (lit≤ tt)) refl 0 (lit≤ tt) (replicate 12 0) (lit≤ tt) in
+    let n : _≡_ {A = ℕ} 5 6 = ap (λ (h : Head). h .identifier) (sym (one .1 .head-back) ∙ ap headAt (same (there 5) (replicate 12 0) (one .0) ∙ sym (same (there 6) (replicate 12 0) (other .0))) ∙ other .1 .head-back) in
+    omega (arith, n)
+
+pub constant-packet-fails : (s : List ℕ) → Demand2 (constantPacket s) → ⊥
+constant-packet-fails s = constant-packets-fail (constantPacket s) s (λ g out e. take-append-seam s (drop (length s) out))
+
+-- of no message and of one the report says not the same
+pub made-up-fails : (n : ℕ) → Reports (madeUp n) → ⊥
+unfolding reach did done effect tests lineFor openTests modeTests bookFits linesFit allSpan openIn lineFits member noTwice allSpans owedFits modesFit sendingFits receivingFits sizes.sizesFit every asking moved timed channelsFor steppedTo takeCallTests relayTests tookOne regionOf heldFrom
+made-up-fails n d =
+    let ts : List Turn = turn (call.opening 0 (named 5) 0) ∷ turn (call.mode 0 (ask modem 0)) ∷ turn (call.taking 0 1 (7 ∷ [])) ∷ [] in
+    let none = d .exact (there 5) 0 (ready (turns 5) refl (lit≤ tt)) refl 1 refl [] in
+    let one = d .exact (called ts) 0 (ready ts refl (lit≤ tt)) refl 1 refl [] in
+    let e : _≡_ {A = ℕ} 0 1 = ap (λ (a : Answer). getD (a .values) 0 0) (sym none ∙ one) in
+    omega (arith, e)

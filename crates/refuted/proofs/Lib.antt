@@ -1,0 +1,9 @@
+pub mod Idle
+pub mod IdlePackets
+pub mod IdleRuns
+pub mod Callers
+pub mod Room
+pub mod Twins
+pub mod Rounds
+pub mod Answered
+pub mod Size

@@ -1,0 +1,152 @@
+-- A message of channel 1 after the other is taken, sent, handed out and answered with base news, up to message 16,383: so far the build that
+-- compares sequence numbers by size does what ours does.
+-- Assumes nothing.
+use Prim.Native.Nat.{ℕ, suc, _%_, _≤_, _<_}
+use mathlib.Core.Path.{_≡_, refl, sym, ap, subst, _∙_}
+use mathlib.Core.List.{List, [], _∷_, List·Memᴰ·head}
+use mathlib.Core.Logic.{⊎-elim}
+use native.Mathlib.Omega.{arith}
+use lib.Dec.{lit≤}
+use lib.ListN.{length, take, replicate, length-append}
+use Rattle.packet.specs.Read.{headAt}
+use Rattle.packet.specs.declared.Head.{Head}
+use Rattle.channel.specs.Channel.{modulus}
+use Rattle.sending.specs.Sending.{tookOne}
+use Rattle.flow.specs.Flow.{Message, Full}
+use Rattle.line.specs.Line.{receivingOf}
+use Rattle.line.specs.declared.Line.{Line}
+use Rattle.writing.specs.Write.{wroteLine, headFor}
+use Rattle.arriving.specs.Arrive.{carries}
+use Rattle.book.specs.Book.{lineOf}
+use Rattle.calls.specs.Call.{Call}
+use Rattle.calls.specs.Call as call
+use Rattle.calls.specs.Order.{lineFor}
+use Rattle.calls.specs.Did.{did, effect}
+use Rattle.promise.specs.Past.{Mark, Packet, Past, tookPast, wrotePast}
+use Rattle.promise.specs.Run.{Gateway, does, after, lineAt, Each, none, also, Recent, Honest, rankedMark, baseMark, sentPacket, took, sent}
+use Rattle.promise.specs.Promise.{sendsBy, reportBy}
+use Rattle.promise.specs.Demand3.{Serves}
+use Rattle.refuted.specs.Quick.{expected}
+use Rattle.promise.proofs.Own.{call-passes, line-left}
+use Rattle.promise.proofs.Lift.{run-kept}
+use Rattle.promise.proofs.Demand2.{ours-demand2}
+use Rattle.promise.proofs.Demand3.{promised, report-counts}
+use Rattle.refuted.proofs.Twins.{Twin, turned, served, alike, ready, S-is, h-is, R-is, next-is}
+
+abbrev pub room : List ℕ
+room = replicate 144 0
+
+abbrev pub message : Message
+message = 7 ∷ []
+
+-- k messages were taken, handed out, and their rooms are free again; nothing is owed, and nothing goes the other way
+pub record At (k : ℕ) : Type 0 where
+  pub g : Gateway
+  pub p : Past
+  pub h : Gateway
+  pub q : Past
+  pub twin : Twin g p h q
+  pub taken : length (p .taken 1) ≡ k
+  pub handed : length (q .handed 1) ≡ k
+  pub base : lineAt g 0 .sending1 .base ≡ k
+  pub silent : p .owes ≡ []
+  pub quiet : q .owes ≡ []
+  pub idle : q .taken 1 ≡ []
+  pub deaf : p .handed 1 ≡ []
+
+-- Message k is taken and written.
+module _ {k : ℕ} (few : k ≤ 16384) (a : At k) where
+  abbrev t : Twin (a .g) (a .p) (a .h) (a .q)
+  t = a .twin
+
+  abbrev pub taking : Call
+  taking = call.taking 0 1 message
+
+  abbrev pub g₁ : Gateway
+  g₁ = after did (a .g) taking []
+
+  abbrev pub p₁ : Past
+  p₁ = tookPast (a .p) 1 message
+
+  takes : Serves did (a .g) 0 taking []
+  takes = served t .takes 1 refl message (lit≤ tt) (lit≤ tt) (omega (arith, S-is t, a .taken, few)) (omega (arith, S-is t, h-is t, a .taken, a .base)) []
+
+  pub t₁ : Twin g₁ p₁ (a .h) (a .q)
+  t₁ = alike t taking [] (t .mine .0) takes refl (took 1 message (takes .accepted)) (took 1 message (takes .accepted))
+
+  pub taken₁ : length (p₁ .taken 1) ≡ suc k
+  taken₁ = omega (arith, length-append (a .p .taken 1) (message ∷ []), a .taken)
+
+  base₁ : lineAt g₁ 0 .sending1 .base ≡ k
+  unfolding lineFor effect tookOne
+  base₁ = ap (λ (l : Line). l .sending1 .base) (line-left (run-kept (t .ours) .mine) taking [] refl (call-passes (a .g) taking [] (takes .accepted))) ∙ a .base
+
+  -- it is held, as it has not come yet
+  held₁ : Full (sendsBy g₁ 0 p₁ 1 .held k)
+  held₁ =
+      let c = promised (t₁ .ours) .there 1 refl .held k (omega (arith, R-is t, a .handed)) (omega (arith, S-is t₁, taken₁)) in
+      ⊎-elim (λ e. subst Full (sym e) (c .0))
+      (λ e.
+      let u = run-kept (t .ours) .joined .there 1 refl .keeps k (omega (arith, R-is t, a .handed)) (subst Full (sym e) (c .0)) .0 in
+      absurd (omega (arith, u, S-is t, a .taken)))
+      (c .1)
+
+  pub ranked : (rank : ℕ) × (rank < reportBy did g₁ 0 1) × (rankedMark g₁ 0 1 rank .number ≡ k)
+  ranked = served t₁ .ranks 1 refl k (omega (arith, h-is t₁, base₁)) (omega (arith, S-is t₁, taken₁)) held₁
+
+  abbrev pub sending : Call
+  sending = call.sending 0 1 (ranked .0)
+
+  sends : Serves did g₁ 0 sending room
+  sends = served t₁ .sends 1 refl (ranked .0) (ranked .1) room (lit≤ tt)
+
+  abbrev pub packet : Packet
+  packet = sentPacket g₁ p₁ 0 1 (ranked .0) (does did g₁ sending room)
+
+  abbrev pub g₂ : Gateway
+  g₂ = after did g₁ sending room
+
+  abbrev pub p₂ : Past
+  p₂ = wrotePast p₁ packet
+
+  pub t₂ : Twin g₂ p₂ (a .h) (a .q)
+  t₂ = alike t₁ sending room (t .mine .0) sends refl (sent 1 (ranked .0) (sends .accepted)) (sent 1 (ranked .0) (sends .accepted))
+
+  pub base₂ : lineAt g₂ 0 .sending1 .base ≡ k
+  unfolding lineFor effect wroteLine
+  base₂ = ap (λ (l : Line). l .sending1 .base) (line-left (run-kept (t₁ .ours) .mine) sending room refl (call-passes g₁ sending room (sends .accepted))) ∙ base₁
+
+  pub number : rankedMark g₁ 0 1 (ranked .0) .number ≡ k
+  number = ranked .2
+
+  pub honest : Honest (a .q) p₂ (packet .octets) packet
+  honest =
+      let lately : Recent (p₁ .taken) (rankedMark g₁ 0 1 (ranked .0)) = omega (arith, taken₁, number) in
+      let near : Recent (a .q .taken) (baseMark g₁ 0 1) = omega (arith, ap length (a .idle)) in
+      record {
+        written = List·Memᴰ·head refl;
+        same = refl;
+        carries = also lately none;
+        names = also near none;
+        acks = subst (λ (o : List Mark). Each (Recent (a .q .taken)) (take 3 o)) (sym (a .silent)) none;
+      }
+
+  -- its number is k in its 14 bits
+  says : headAt (packet .octets) ≡ headFor (lineAt g₁ 0) 1 (rankedMark g₁ 0 1 (ranked .0) .number % modulus)
+  says = ours-demand2 .sending-back g₁ 0 (ready t₁) (t₁ .mine .1) 1 refl (ranked .0) (omega (arith, ranked .1, report-counts (t₁ .ours) 1 refl (t₁ .mine))) room (lit≤ tt) .1 .head-back
+
+  pub said-number : headAt (packet .octets) .number ≡ k % modulus
+  said-number = ap (λ (x : Head). x .number) says ∙ ap (λ (n : ℕ). n % modulus) number
+
+  pub said-channel : headAt (packet .octets) .channel ≡ 1
+  said-channel = ap (λ (x : Head). x .channel) says
+
+  abbrev pub arrival : Call
+  arrival = call.arrival (packet .octets)
+
+  pub here : lineFor arrival (a .h .book) ≡ 0
+  here = served (turned t₂) .arrives (packet .octets) packet honest [] .0
+
+  -- R, as the build sees it
+  pub next-there : expected (packet .octets) (a .h .book) ≡ k
+  next-there = (λ i. receivingOf (lineOf (a .h .book) (here i)) (said-channel i) .next) ∙ next-is t ∙ a .handed

@@ -1,4 +1,0 @@
-pub mod Turns
-pub mod Resting
-pub mod Spans
-pub mod Once

@@ -1,2 +1,0 @@
-pub mod Rest
-pub mod Marks

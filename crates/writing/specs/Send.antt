@@ -1,0 +1,68 @@
+-- A held message is written: which one a rank names, what refuses it, and its packet.
+-- Assumes nothing.
+use Prim.Native.Nat.{ℕ, _+_, _%_, _≤_, _<_}
+use mathlib.Core.Path.{_≡_}
+use mathlib.Core.Bool.{Bool, true, false}
+use mathlib.Core.List.{List, [], _∷_, _++_}
+use lib.Dec.{leb}
+use Rattle.ground.specs.Refusal.{Test, must, verdict, settle}
+use Rattle.ground.specs.declared.Refusal.the-variants.{NOTHING, ROOM}
+use Rattle.ground.specs.declared.Verdict.the-variants.{Pass}
+use Rattle.channel.specs.Channel.{modulus, windowOf}
+use Rattle.sending.specs.Sending.{heldOf}
+use Rattle.channel.specs.Sizes.{sizeFits}
+use Rattle.sending.specs.declared.Held.{Held}
+use Rattle.sending.specs.declared.Ranked.{Ranked}
+use Rattle.sending.specs.declared.Ranked.the-variants.{Is, Nothing}
+use Rattle.packet.specs.Write.{packetOctets}
+use Rattle.line.specs.Fit.{largest}
+use Rattle.line.specs.Line.{sendingOf}
+use Rattle.line.specs.declared.Line.{Line}
+use Rattle.store.specs.Store.{regionOf, octetsIn}
+use Rattle.store.specs.declared.Way.the-variants.{Sending}
+use Rattle.relay.specs.Asked.{relayTests}
+use Rattle.writing.specs.Write.{acksFor, headFor, headerFor}
+use Rattle.writing.specs.declared.MaySend.{MaySend}
+use Rattle.writing.specs.declared.MaySend.the-variants.{Message, Refused}
+
+-- "A held message is written by its rank among the unacknowledged ones of its channel"
+abbrev pub ranked : Line → ℕ → ℕ → Ranked
+ranked l channel rank = heldOf (windowOf channel) (sendingOf l channel) rank
+
+-- "no message of that rank" is refused
+abbrev pub isHeld : Ranked → Bool
+isHeld (Is h) = true
+isHeld Nothing = false
+
+-- the message found; where there is none, one of no octets
+abbrev pub heldIn : Ranked → Held
+heldIn (Is h) = h
+heldIn Nothing = record { number = 0; place = 0; size = 0 }
+
+-- how many octets a message's packet has
+abbrev pub sentLength : Line → Held → ℕ
+sentLength l h = headerFor l + h .size
+
+-- "Held message written ..: NOLINE, MODE, CHANNEL, .. NOTHING, ROOM"; room is the output's length
+unfoldable pub sendTests : Line → ℕ → ℕ → ℕ → List Test
+sendTests l channel rank room =
+    relayTests l channel
+    ++ (must (isHeld (ranked l channel rank)) NOTHING
+    ∷ must (leb (sentLength l (heldIn (ranked l channel rank))) room) ROOM
+    ∷ [])
+
+-- the message that may be written, or why none may
+unfoldable pub maySend : Line → ℕ → ℕ → ℕ → MaySend
+maySend l channel rank room = settle (verdict (sendTests l channel rank room)) Refused (Message (heldIn (ranked l channel rank)))
+
+-- its packet: "Each channel numbers the messages taken for sending from 0, modulo 16,384"; its octets lie in the store
+unfoldable pub heldPacket : Line → ℕ → ℕ → Held → List ℕ → List ℕ
+heldPacket l i channel h store =
+    packetOctets (headFor l channel (h .number % modulus)) (acksFor l) (octetsIn store (regionOf i Sending channel) (h .place) (h .size))
+
+-- what writing a message asks: that its line and channel were asked, that it has a place and a size, and that its packet has room
+pub record Sendable (l : Line) (channel room : ℕ) (h : Held) : Type 0 where
+  pub asked : verdict (relayTests l channel) ≡ Pass
+  pub placed : h .place < windowOf channel
+  pub sized : sizeFits largest (h .size) ≡ true
+  pub roomy : sentLength l h ≤ room

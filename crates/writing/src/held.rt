@@ -1,0 +1,62 @@
+// A held message written as a packet. Document 01, 'Packets' and the paragraph 'Order'. The call is a verdict, worked out first, and
+// an effect, made only where the verdict lets it pass. What the packet has in common with every other that a line writes is made
+// in `writing`.
+ghost use mathlib.Core.Path.{_≡_};
+ghost use mathlib.Core.Bool.{true};
+ghost use Prim.Native.Nat.{_≤_, _<_};
+ghost use mathlib.Core.List.{_++_};
+ghost use lib.ListN.{length, drop};
+ghost use Rattle.ground.specs.declared.Written.{Written};
+ghost use Rattle.line.specs.Fit.{lineFits};
+ghost use Rattle.writing.specs.Write.{wroteLine};
+ghost use Rattle.writing.specs.Send.{maySend, heldPacket, Sendable};
+use crate::MaySend;
+use crate::Sent;
+use channel::Channel;
+use ground::Refusal;
+use ground::Verdict;
+use line::Line;
+use sending::Held;
+use sending::Ranked;
+use store::Region;
+use store::Way;
+
+// May the held message of a rank be written into `room` octets? NOLINE, MODE, CHANNEL, NOTHING, ROOM.
+pub fn may_send(l: Line, channel: u8, rank: u8, room: usize) -> MaySend
+    requires { ⌜ lineFits l ≡ true ⌝ }
+    ensures { λ r. ⌜ r ≡ maySend l channel rank room ⌝ }
+{
+    let first = relay::asked(l, channel);
+    match first {
+        Verdict::Refuse(r) => MaySend::Refused(r),
+        Verdict::Pass => {
+            let window = Channel::of(channel).window;
+            let found = l.sending(channel).ranked(window, rank as u32);
+            match found {
+                Ranked::Nothing => MaySend::Refused(Refusal::NOTHING),
+                Ranked::Is(h) => {
+                    if crate::header_length(l) + (h.size as usize) <= room {
+                        MaySend::Message(h)
+                    } else {
+                        MaySend::Refused(Refusal::ROOM)
+                    }
+                }
+            }
+        }
+    }
+}
+
+// Writes a held message.
+pub fn send(l: Line, i: u8, store: &[u8], channel: u8, h: Held, out: &mut [u8]) -> Sent
+    requires { ⌜ (lineFits l ≡ true) × (i < 4) × (42240 ≤ length (now store)) × Sendable l channel (length (now out)) h ⌝ }
+    ensures { λ r. ⌜ (r .line ≡ wroteLine l) × (r .answer ≡ Written.Wrote (length (heldPacket l i channel h (now (store .entry))))) × (now (out .exit) ≡ heldPacket l i channel h (now (store .entry)) ++ drop (length (heldPacket l i channel h (now (store .entry)))) (now (out .entry))) ⌝ }
+{
+    let region = Region::of(i, Way::Sending, channel);
+    let at = region.room(h.place);
+    let end = at + h.size as usize;
+    let head = crate::head_for(l, channel, (h.number & 0x3fff) as u16);
+    let acks = crate::acks_for(l);
+    let answer = packet::write_packet(out, head, acks, &store[at..end], 132);
+    let line = crate::wrote_line(l);
+    Sent { line, answer }
+}
