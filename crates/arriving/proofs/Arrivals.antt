@@ -18,15 +18,15 @@ use Rattle.ground.proofs.Verdicts.{Holds, passed, passes, verdict-on, verdict-s
 use Rattle.ground.proofs.Picks.{pick-by, each}
 use Rattle.field.proofs.Laws.{bits-lt}
 use Rattle.packet.specs.declared.Acks.{Acks}
-use Rattle.packet.specs.declared.AcksRead.the-variants as acks
-use Rattle.packet.specs.declared.HeadRead.the-variants as head
+use Rattle.packet.specs.declared.AcksReading.the-variants as acks
+use Rattle.packet.specs.declared.HeadReading.the-variants as head
 use Rattle.packet.specs.Acks.{ackList, acksServed}
-use Rattle.packet.specs.Read.{channelAt, headerAt, numberAt, headAt, acksAt, payloadOf, sizeFits, payloadFits, headTests, listTests, headRead, acksRead}
+use Rattle.packet.specs.Read.{channelAt, headerLength, numberAt, headAt, acksAt, payloadOf, sizeFits, payloadFits, headTests, listTests, headRead, acksRead}
 use Rattle.packet.specs.declared.Head.{Head}
 use Rattle.mode.specs.Given.{modem}
 use Rattle.line.specs.Fit.{largest, lineFits}
 use Rattle.line.specs.declared.Line.{Line}
-use Rattle.relay.specs.Asked.{reliable}
+use Rattle.relay.specs.RelayTests.{reliable}
 use Rattle.arriving.proofs.Stays.{news-store}
 use Rattle.arriving.specs.Effect.{Relaying, heardLine, storedLine, storedStore}
 use Rattle.arriving.specs.Arrive.{arriveTests, newsLine, arrivedLine, arrivedStore}
@@ -78,20 +78,20 @@ module _ (s : List ℕ) where
   unfolding headAt numberAt
   number-lt =
       pick-by (λ (n : ℕ). n < 16384) (eqb (channelAt s) 0) (λ _. lit< tt)
-      (λ _. pick-by (λ (n : ℕ). n < 16384) (leb (length s) (headerAt s)) (λ _. lit< tt) (λ _. bits-lt s 18 14))
+      (λ _. pick-by (λ (n : ℕ). n < 16384) (leb (length s) (headerLength s)) (λ _. lit< tt) (λ _. bits-lt s 18 14))
 
   pub acks-few : acksAt s .count ≤ 3
   unfolding acksAt
   acks-few = omega (arith, bits-lt s 32 2)
 
-  pub payload-length : length (payloadOf s) ≡ length s - headerAt s
+  pub payload-length : length (payloadOf s) ≡ length s - headerLength s
   unfolding payloadOf
-  payload-length = length-drop (headerAt s) s
+  payload-length = length-drop (headerLength s) s
 
   -- the octets behind the header
-  pub payload-rest : (at : ℕ) → at ≡ headerAt s → take (length s - at) (drop at s) ≡ payloadOf s
+  pub payload-rest : (at : ℕ) → at ≡ headerLength s → take (length s - at) (drop at s) ≡ payloadOf s
   unfolding payloadOf
-  payload-rest at e = (λ i. take (length s - e i) (drop (e i) s)) ∙ ap (λ (n : ℕ). take n (drop (headerAt s) s)) (sym (length-drop (headerAt s) s)) ∙ take-length (drop (headerAt s) s)
+  payload-rest at e = (λ i. take (length s - e i) (drop (e i) s)) ∙ ap (λ (n : ℕ). take n (drop (headerLength s) s)) (sym (length-drop (headerLength s) s)) ∙ take-length (drop (headerLength s) s)
 
 -- the line's own tests hold: the list's tests decide, and then the payload's
 module _ (l : Line) (s : List ℕ) (kind : headAt s .kind ≡ l .kind) (inside : l .modes .local ≡ modem) where
@@ -122,7 +122,7 @@ module _ (l : Line) (s : List ℕ) (pass : verdict (arriveTests l s) ≡ Pass) w
   unfolding arriveTests
   arrive-list = passes (listTests s) (tests .1 .1 .0, (tests .1 .1 .1 .0, tt))
 
-  sized : sizeFits (channelAt s) (length s - headerAt s) largest ≡ true
+  sized : sizeFits (channelAt s) (length s - headerLength s) largest ≡ true
   unfolding arriveTests
   sized = tests .1 .1 .1 .1 .0
 
@@ -134,8 +134,8 @@ module _ (l : Line) (s : List ℕ) (pass : verdict (arriveTests l s) ≡ Pass) w
   unfolding sizeFits
   arrive-size =
       pick-by (λ (t : Bool). t ≡ true → length (payloadOf s) ≤ largest) (eqb (channelAt s) 0)
-      (λ _ z. let e : length s - headerAt s ≡ 0 = eqb-true _ _ z in omega (arith, payload-length s))
-      (λ _ z. let e : length s - headerAt s ≤ largest = leb-true _ _ z in omega (arith, payload-length s))
+      (λ _ z. let e : length s - headerLength s ≡ 0 = eqb-true _ _ z in omega (arith, payload-length s))
+      (λ _ z. let e : length s - headerLength s ≤ largest = leb-true _ _ z in omega (arith, payload-length s))
       sized
 
   -- a payload stands on channel 1 or 2
@@ -143,7 +143,7 @@ module _ (l : Line) (s : List ℕ) (pass : verdict (arriveTests l s) ≡ Pass) w
   unfolding sizeFits headAt
   arrive-reliable p =
       pick-by (λ (t : Bool). t ≡ true → reliable (channelAt s) ≡ true) (eqb (channelAt s) 0)
-      (λ _ z. let e : length s - headerAt s ≡ 0 = eqb-true _ _ z in absurd (omega (arith, payload-length s)))
+      (λ _ z. let e : length s - headerLength s ≡ 0 = eqb-true _ _ z in absurd (omega (arith, payload-length s)))
       (λ n _. let d : (channelAt s ≡ 0 → ⊥) = eqb-false _ _ n in one-or-two (channelAt s) d below-three)
       sized
     where
@@ -155,18 +155,18 @@ module _ (l : Line) (s : List ℕ) (pass : verdict (arriveTests l s) ≡ Pass) w
 
 -- with no payload the news is all; with one, it comes to the line as the news leaves it
 module _ (l : Line) (s : List ℕ) where
-  pub news-all : length s ≤ headerAt s → newsLine l s ≡ arrivedLine l s
+  pub news-all : length s ≤ headerLength s → newsLine l s ≡ arrivedLine l s
   unfolding arrivedLine
   news-all q = rw (le-ltb 0 (length (payloadOf s)) (omega (arith, payload-length s))) refl
 
-  pub store-all : length s ≤ headerAt s → (i : ℕ) (store : List ℕ) → store ≡ arrivedStore l i s store
+  pub store-all : length s ≤ headerLength s → (i : ℕ) (store : List ℕ) → store ≡ arrivedStore l i s store
   unfolding arrivedStore
   store-all q i store = rw (le-ltb 0 (length (payloadOf s)) (omega (arith, payload-length s))) refl
 
-  pub payload-line : headerAt s < length s → storedLine (newsLine l s) (headAt s .channel) (headAt s .number) (length (payloadOf s)) ≡ arrivedLine l s
+  pub payload-line : headerLength s < length s → storedLine (newsLine l s) (headAt s .channel) (headAt s .number) (length (payloadOf s)) ≡ arrivedLine l s
   unfolding arrivedLine
   payload-line q = rw (lt-ltb 0 (length (payloadOf s)) (omega (arith, payload-length s))) refl
 
-  pub payload-store : headerAt s < length s → (i : ℕ) (store : List ℕ) → storedStore (newsLine l s) i (headAt s .channel) (headAt s .number) (payloadOf s) store ≡ arrivedStore l i s store
+  pub payload-store : headerLength s < length s → (i : ℕ) (store : List ℕ) → storedStore (newsLine l s) i (headAt s .channel) (headAt s .number) (payloadOf s) store ≡ arrivedStore l i s store
   unfolding arrivedStore
   payload-store q i store = rw (lt-ltb 0 (length (payloadOf s)) (omega (arith, payload-length s))) (news-store l s i (headAt s .channel) (headAt s .number) (payloadOf s) store)

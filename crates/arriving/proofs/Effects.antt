@@ -29,7 +29,7 @@ use Rattle.line.specs.declared.Line.{Line}
 use Rattle.line.proofs.Keeps.{LineOk, line-ok, ok-line, sending-side, receiving-side, with-sending-ok}
 use Rattle.store.specs.Store.{regionOf}
 use Rattle.store.specs.declared.Way.the-variants as way
-use Rattle.relay.specs.Asked.{reliable}
+use Rattle.relay.specs.RelayTests.{reliable}
 use Rattle.arriving.proofs.StepsStay.{sent-news}
 use Rattle.arriving.specs.Effect.{Relaying, heardLine, ackedLine, ackedAll, owingLine, arrivalAt, storedLine, putAs, storedStore}
 
@@ -72,7 +72,7 @@ module _ (l : Line) (k : Relaying l) where
 
   -- the place of a message in the window
   pub place-near : (channel : ℕ) {d : ℕ} → d < windowOf channel → arrivalPlace (windowOf channel) (receivingOf l channel) d < windowOf channel
-  place-near channel {d} q = place-lt (windowOf channel) (receivingOf l channel .first) d (receiving-steps channel .placed) (omega arith)
+  place-near channel {d} q = place-lt (windowOf channel) (receivingOf l channel .origin) d (receiving-steps channel .placed) (omega arith)
 
   -- a base and an acknowledgement leave a line in modem relay
   pub heard-relaying : (channel base : ℕ) → Relaying (heardLine l channel base)

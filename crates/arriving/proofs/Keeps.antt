@@ -33,10 +33,10 @@ use Rattle.line.specs.Shape.{Shaped}
 use Rattle.line.specs.declared.Line.{Line}
 use Rattle.line.proofs.Keeps.{LineOk, ok-line, receiving-side, with-receiving-ok}
 use Rattle.line.proofs.Shape.{sending-long, receiving-long, with-sending-shaped, with-receiving-shaped}
-use Rattle.store.specs.Store.{regionOf, roomAt}
+use Rattle.store.specs.Store.{regionOf, slotAt}
 use Rattle.store.specs.declared.Region.{Region}
 use Rattle.store.specs.declared.Way.the-variants as way
-use Rattle.relay.specs.Asked.{reliable}
+use Rattle.relay.specs.RelayTests.{reliable}
 use Rattle.arriving.specs.Effect.{Relaying, heardLine, ackedLine, ackedAll, owingLine, arrivalAt, storedLine, putAs, storedStore}
 use Rattle.arriving.specs.Arrive.{arriveTests, newsLine, carries, arrivedLine, arrivedStore}
 use Rattle.arriving.proofs.StepsStay.{stored-stays}
@@ -151,7 +151,7 @@ module _ (l : Line) (s : List ℕ) (fits : lineFits l ≡ true) (opened : l .ope
 
 -- the store stays as long as it was
 put-length : (w : ℕ) (r : Receiving) (g : Region) (a : Arrival) (message store : List ℕ) → length (putAs w r g a message store) ≡ length store
-put-length w r g (Stored d) message store = length-sets store (roomAt g (arrivalPlace w r d)) message
+put-length w r g (Stored d) message store = length-sets store (slotAt g (arrivalPlace w r d)) message
 put-length w r g There message store = refl
 put-length w r g Old message store = refl
 

@@ -16,7 +16,7 @@ use Rattle.sending.specs.declared.Sending.{Sending}
 use Rattle.receiving.specs.declared.Receiving.{Receiving}
 use Rattle.line.specs.Line.{sendingOf, receivingOf, withSides, withSending}
 use Rattle.line.specs.declared.Line.{Line}
-use Rattle.relay.specs.Asked.{reliable}
+use Rattle.relay.specs.RelayTests.{reliable}
 use Rattle.arriving.specs.Effect.{heardLine, ackedLine, ackedAll, owingLine, arrivalAt, storedLine}
 
 pub record Stays (l m : Line) : Type 0 where

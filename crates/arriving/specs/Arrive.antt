@@ -12,7 +12,7 @@ use Rattle.packet.specs.Acks.{ackList}
 use Rattle.packet.specs.Read.{headAt, acksAt, payloadOf, listTests, payloadFits}
 use Rattle.line.specs.Fit.{largest}
 use Rattle.line.specs.declared.Line.{Line}
-use Rattle.relay.specs.Asked.{inRelay}
+use Rattle.relay.specs.RelayTests.{inRelay}
 use Rattle.arriving.specs.Effect.{heardLine, ackedAll, storedLine, storedStore}
 
 -- "Arrival: .. TYPE, MODE, SHORT for the list, CHANNEL, SIZE", once the line that has the identifier is found and is open

@@ -1,4 +1,4 @@
--- What a base, an acknowledgement and a payload do to the line at which they arrive, and to its rooms in the store.
+-- What a base, an acknowledgement and a payload do to the line at which they arrive, and to its slots in the store.
 -- Assumes nothing.
 use Prim.Native.Nat.{ℕ}
 use mathlib.Core.Path.{_≡_}
@@ -18,10 +18,10 @@ use Rattle.owed.specs.Owed.{entered}
 use Rattle.line.specs.Line.{sendingOf, withSending, receivingOf, withReceiving, withOwed}
 use Rattle.line.specs.Fit.{lineFits}
 use Rattle.line.specs.declared.Line.{Line}
-use Rattle.store.specs.Store.{regionOf, roomAt}
+use Rattle.store.specs.Store.{regionOf, slotAt}
 use Rattle.store.specs.declared.Region.{Region}
 use Rattle.store.specs.declared.Way.the-variants as way
-use Rattle.relay.specs.Asked.{reliable}
+use Rattle.relay.specs.RelayTests.{reliable}
 
 -- what each step asks of the line, and leaves so: it is open and in modem relay, and BOOK lets it pass
 pub record Relaying (l : Line) : Type 0 where
@@ -58,7 +58,7 @@ storedLine l channel number size =
 
 -- "the message is stored, unless that place is already filled, in which case the first stays"; an old one "is not stored"
 abbrev pub putAs : ℕ → Receiving → Region → Arrival → List ℕ → List ℕ → List ℕ
-putAs w r g (Stored d) message store = sets store (roomAt g (arrivalPlace w r d)) message
+putAs w r g (Stored d) message store = sets store (slotAt g (arrivalPlace w r d)) message
 putAs w r g There message store = store
 putAs w r g Old message store = store
 

@@ -1,4 +1,4 @@
-// What a base, an acknowledgement and a payload do to the line at which they arrive, and to its rooms in the store: document 01,
+// What a base, an acknowledgement and a payload do to the line at which they arrive, and to its slots in the store: document 01,
 // 'Packets'. Each is a step of its own; which packet makes them, and in what order, is left to others.
 ghost use mathlib.Core.Path.{_≡_};
 ghost use mathlib.Core.Bool.{true};
@@ -6,7 +6,7 @@ ghost use Prim.Native.Nat.{_≤_, _<_};
 ghost use lib.ListN.{length};
 ghost use Rattle.packet.specs.Acks.{ackList};
 ghost use Rattle.line.specs.Fit.{largest};
-ghost use Rattle.relay.specs.Asked.{reliable};
+ghost use Rattle.relay.specs.RelayTests.{reliable};
 ghost use Rattle.arriving.specs.Effect.{Relaying, heardLine, ackedLine, ackedAll, owingLine, storedLine, storedStore};
 use channel::Channel;
 use line::Line;
@@ -50,15 +50,15 @@ pub fn acks_heard(l: Line, acks: Acks) -> Line
     if acks.count == 0 {
         return l;
     }
-    let one = ack_heard(l, acks.first);
+    let one = ack_heard(l, acks.one);
     if acks.count == 1 {
         return one;
     }
-    let two = ack_heard(one, acks.second);
+    let two = ack_heard(one, acks.two);
     if acks.count == 2 {
         return two;
     }
-    ack_heard(two, acks.third)
+    ack_heard(two, acks.three)
 }
 
 // The number of a message that came is owed.
@@ -71,7 +71,7 @@ pub fn number_owed(l: Line, channel: u8, number: u16) -> Line
     Line { owed, ..l }
 }
 
-// A message comes: its octets go into the room of its place if they are new there, and its number is owed in every case.
+// A message comes: its octets go into the slot of its place if they are new there, and its number is owed in every case.
 pub fn payload_stored(
     l: Line,
     i: u8,

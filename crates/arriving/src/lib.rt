@@ -1,4 +1,4 @@
-// What an arriving packet asks of its line, and what it does to it and to its rooms in the store: document 01, 'Packets' and the
+// What an arriving packet asks of its line, and what it does to it and to its slots in the store: document 01, 'Packets' and the
 // paragraph 'Order'. A verdict is worked out first, and an effect is made only where it lets the packet pass. The packet's first
 // tests, the search for the line by its identifier, and books are left to others.
 ghost use mathlib.Core.Path.{_≡_};
@@ -14,8 +14,8 @@ use ground::Refusal;
 use ground::Verdict;
 use line::Line;
 use mode::Modes;
-use packet::AcksRead;
-use packet::HeadRead;
+use packet::AcksReading;
+use packet::HeadReading;
 
 mod effect; // effect.rt: what a base, an acknowledgement and a payload do
 
@@ -38,8 +38,8 @@ pub fn may_arrive(l: Line, s: &[u8]) -> Verdict
     }
     let list = packet::read_acks(s);
     match list {
-        AcksRead::Refused(r) => Verdict::Refuse(r),
-        AcksRead::Says(_) => {
+        AcksReading::Refused(r) => Verdict::Refuse(r),
+        AcksReading::Says(_) => {
             if packet::payload_fits(s, 132) {
                 Verdict::Pass
             } else {
@@ -54,15 +54,15 @@ pub fn arrive(l: Line, i: u8, store: &mut [u8], s: &[u8]) -> Line
     requires { ⌜ (lineFits l ≡ true) × (l .opened ≡ true) × (i < 4) × (42240 ≤ length (now store)) × (verdict (arriveTests l (now s)) ≡ Pass) × (verdict (headTests (now s)) ≡ Pass) ⌝ }
     ensures { λ r. ⌜ (r ≡ arrivedLine l (now (s .entry))) × (now (store .exit) ≡ arrivedStore l i (now (s .entry)) (now (store .entry))) ⌝ }
 {
-    let HeadRead::Says(head) = packet::read_head(s) else {
+    let HeadReading::Says(head) = packet::read_head(s) else {
         return l;
     };
-    let AcksRead::Says(acks) = packet::read_acks(s) else {
+    let AcksReading::Says(acks) = packet::read_acks(s) else {
         return l;
     };
     let heard = effect::base_heard(l, head.channel, head.base);
     let news = effect::acks_heard(heard, acks);
-    let at = packet::header_at(s);
+    let at = packet::header_length(s);
     if s.len() <= at {
         return news;
     }

@@ -11,7 +11,7 @@ use Rattle.line.specs.Line.{closedLine}
 use Rattle.line.specs.declared.Line.{Line}
 use Rattle.book.specs.declared.Book.{Book}
 use Rattle.book.specs.Book.{restingOf, lineOf}
-use Rattle.book.specs.Rest.{closedAt}
+use Rattle.book.specs.Closing.{closedAt}
 use Rattle.book.proofs.Turns.{getD-any}
 
 -- Its record and those that rest put in as they are to be, however the identifier was read.

@@ -21,10 +21,10 @@ use Rattle.line.specs.declared.Line.{Line}
 use Rattle.line.proofs.Keeps.{closed-fits}
 use Rattle.line.proofs.Shape.{closed-shaped}
 use Rattle.book.specs.Book.{openIn, lineOf, withLine, restingOf, bookFits, taken}
-use Rattle.book.specs.Rest.{closedAt}
+use Rattle.book.specs.Closing.{closedAt}
 use Rattle.book.specs.Shape.{BookShaped}
 use Rattle.book.specs.declared.Book.{Book}
-use Rattle.book.proofs.Around.{set-by, lines-set, open-same, open-closed, once-open, once-less}
+use Rattle.book.proofs.LineAnew.{set-by, lines-set, open-same, open-closed, once-open, once-less}
 use Rattle.book.proofs.Facts.{book-ok, ok-book, line-span, line-fits}
 use Rattle.book.proofs.Closing.{closed-resting}
 

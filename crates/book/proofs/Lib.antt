@@ -1,11 +1,11 @@
 pub mod Turns
 pub mod Closing
 pub mod Facts
-pub mod Around
-pub mod Owner
+pub mod LineAnew
+pub mod OneOwner
 pub mod Fresh
 pub mod Keeps
-pub mod Apart
+pub mod OtherLines
 pub mod Unread
 pub mod RestingTurns
 pub mod RestingLists

@@ -11,8 +11,8 @@ use lib.ListN.{length, getD, drop, drop-of-length-le, length-map}
 use Rattle.book.proofs.RestingTurns.{left}
 use Rattle.line.specs.Fit.{lineFits}
 use Rattle.line.specs.declared.Line.{Line}
-use Rattle.book.specs.Book.{openIn, linesFit, whoseFrom}
-use Rattle.book.specs.declared.Whose.the-variants.{At, Nobody}
+use Rattle.book.specs.Book.{openIn, linesFit, ownerFrom}
+use Rattle.book.specs.declared.Owner.the-variants.{At, Nobody}
 
 -- an array of structs has as many elements as its declaration says
 pub many : {A B : Type 0} (f : A → B) (l : List A) {n : ℕ} → length (map f l) ≡ n → length l ≡ n
@@ -26,12 +26,12 @@ getD-any (x ∷ l) (suc i) d e h = getD-any l i d e (omega arith)
 
 module _ (ls : List Line) (i : ℕ) (d : Line) (h : i < length ls) where
   -- the line has the identifier, or another has
-  pub whose-here : (x : ℕ) → (getD ls i d .opened && eqb (getD ls i d .identifier) x) ≡ true → whoseFrom i (drop i ls) x ≡ At i
-  unfolding whoseFrom
+  pub whose-here : (x : ℕ) → (getD ls i d .opened && eqb (getD ls i d .identifier) x) ≡ true → ownerFrom i (drop i ls) x ≡ At i
+  unfolding ownerFrom
   whose-here x e = rw (left ls i d h, e)
 
-  pub whose-on : (x : ℕ) → (getD ls i d .opened && eqb (getD ls i d .identifier) x) ≡ false → whoseFrom (i + 1) (drop (i + 1) ls) x ≡ whoseFrom i (drop i ls) x
-  unfolding whoseFrom
+  pub whose-on : (x : ℕ) → (getD ls i d .opened && eqb (getD ls i d .identifier) x) ≡ false → ownerFrom (i + 1) (drop (i + 1) ls) x ≡ ownerFrom i (drop i ls) x
+  unfolding ownerFrom
   whose-on x e = sym (rw (left ls i d h, e, ← add-one i))
 
   -- the line fits, or it does not
@@ -54,8 +54,8 @@ module _ (ls : List Line) (i : ℕ) (d : Line) (h : i < length ls) where
 
 -- no line is left
 module _ (ls : List Line) (i : ℕ) (h : length ls ≤ i) where
-  pub whose-end : (x : ℕ) → whoseFrom i (drop i ls) x ≡ Nobody
-  unfolding whoseFrom
+  pub whose-end : (x : ℕ) → ownerFrom i (drop i ls) x ≡ Nobody
+  unfolding ownerFrom
   whose-end x = rw (drop-of-length-le ls h)
 
   pub lines-end : linesFit (drop i ls) ≡ true

@@ -9,9 +9,9 @@ use Rattle.ground.specs.Pick.{allHold}
 use Rattle.owed.specs.Owed.{member, noTwice}
 use Rattle.book.specs.Resting.{allSpan}
 use Rattle.line.specs.declared.Line.{Line}
-use Rattle.book.specs.Book.{lineOf, withLine, restingOf, bookFits, taken, whose}
+use Rattle.book.specs.Book.{lineOf, withLine, restingOf, bookFits, taken, ownerOf}
 use Rattle.book.specs.declared.Book.{Book}
-use Rattle.book.proofs.Around.{open-closed, lines-closed, whose-closed}
+use Rattle.book.proofs.LineAnew.{open-closed, lines-closed, whose-closed}
 
 module _ (b : Book) (i : ℕ) (o : lineOf b i .opened ≡ false) (l : Line) (c : l .opened ≡ false) where
   pub closed-unread : bookFits (withLine b i l) ≡ bookFits b
@@ -22,5 +22,5 @@ module _ (b : Book) (i : ℕ) (o : lineOf b i .opened ≡ false) (l : Line) (c :
   pub taken-unread : (identifier : ℕ) → taken (withLine b i l) identifier ≡ taken b identifier
   taken-unread identifier = ap (λ (xs : List ℕ). member identifier (xs ++ restingOf b)) (open-closed l c (b .lines) i o)
 
-  pub whose-unread : (identifier : ℕ) → whose (withLine b i l) identifier ≡ whose b identifier
+  pub whose-unread : (identifier : ℕ) → ownerOf (withLine b i l) identifier ≡ ownerOf b identifier
   whose-unread identifier = whose-closed l c 0 (b .lines) i identifier o

@@ -12,8 +12,8 @@ use Rattle.line.specs.Line.{closedLine}
 use Rattle.line.specs.Fit.{lineFits}
 use Rattle.line.specs.declared.Line.{Line}
 use Rattle.book.specs.declared.Book.{Book}
-use Rattle.book.specs.declared.Whose.{Whose}
-use Rattle.book.specs.declared.Whose.the-variants.{At, Nobody}
+use Rattle.book.specs.declared.Owner.{Owner}
+use Rattle.book.specs.declared.Owner.the-variants.{At, Nobody}
 
 -- "as in a fresh book": four closed lines, and nothing rests
 abbrev pub freshBook : Book
@@ -49,12 +49,12 @@ unfoldable pub bookFits : Book → Bool
 bookFits b = allHold (linesFit (b .lines) ∷ leb (b .rested) 16 ∷ allSpan (restingOf b) ∷ noTwice (identifiersOf b) ∷ [])
 
 -- the open line that has the identifier: the first from the front, where k lines stand before these
-unfoldable pub whoseFrom : ℕ → List Line → ℕ → Whose
-whoseFrom k [] identifier = Nobody
-whoseFrom k (l ∷ ls) identifier = pick (l .opened && eqb (l .identifier) identifier) (At k) (whoseFrom (suc k) ls identifier)
+unfoldable pub ownerFrom : ℕ → List Line → ℕ → Owner
+ownerFrom k [] identifier = Nobody
+ownerFrom k (l ∷ ls) identifier = pick (l .opened && eqb (l .identifier) identifier) (At k) (ownerFrom (suc k) ls identifier)
 
-abbrev pub whose : Book → ℕ → Whose
-whose b identifier = whoseFrom 0 (b .lines) identifier
+abbrev pub ownerOf : Book → ℕ → Owner
+ownerOf b identifier = ownerFrom 0 (b .lines) identifier
 
 -- "An identifier open on another line is taken. So is one among the last 16 closed."
 abbrev pub taken : Book → ℕ → Bool

@@ -1,5 +1,5 @@
 pub mod Book
-pub mod Rest
+pub mod Closing
 pub mod Shape
 pub mod Resting
 pub mod Marks

@@ -3,8 +3,8 @@
 ghost use mathlib.Core.Path.{_≡_};
 ghost use mathlib.Core.Bool.{true};
 ghost use Prim.Native.Nat.{_≤_, _<_};
-ghost use Rattle.book.specs.Book.{freshBook, lineOf, withLine, openIn, linesFit, bookFits, whose, taken};
-ghost use Rattle.book.specs.Rest.{closedAt};
+ghost use Rattle.book.specs.Book.{freshBook, lineOf, withLine, openIn, linesFit, bookFits, ownerOf, taken};
+ghost use Rattle.book.specs.Closing.{closedAt};
 ghost use Rattle.book.specs.Marks.{newIn, marked, none};
 use line::Line;
 
@@ -25,7 +25,7 @@ pub struct Seen {
 }
 
 // The line that has an identifier.
-pub enum Whose {
+pub enum Owner {
     At(u8),
     Nobody,
 }
@@ -64,17 +64,17 @@ impl Book {
     }
 
     // The open line that has the identifier.
-    pub fn whose(self, identifier: u8) -> Whose
-        ensures { λ r. ⌜ r ≡ whose self identifier ⌝ }
+    pub fn owner_of(self, identifier: u8) -> Owner
+        ensures { λ r. ⌜ r ≡ ownerOf self identifier ⌝ }
     {
         let mut i = 0;
         while i < 4 {
             if self.lines[i].opened & (self.lines[i].identifier == identifier) {
-                return Whose::At(i as u8);
+                return Owner::At(i as u8);
             }
             i += 1;
         }
-        Whose::Nobody
+        Owner::Nobody
     }
 
     // Is the identifier open on a line, or resting?
@@ -83,10 +83,10 @@ impl Book {
         ensures { λ r. ⌜ r ≡ taken self identifier ⌝ }
     {
         let sixteen = self.resting;
-        let resting = resting::rests(sixteen, self.rested, identifier);
-        match self.whose(identifier) {
-            Whose::At(_) => true,
-            Whose::Nobody => resting,
+        let resting = resting::is_resting(sixteen, self.rested, identifier);
+        match self.owner_of(identifier) {
+            Owner::At(_) => true,
+            Owner::Nobody => resting,
         }
     }
 
@@ -99,7 +99,7 @@ impl Book {
         let closed = Line::closed();
         let mut next = self;
         next.lines[i as usize] = closed;
-        next.resting = resting::rested(self.resting, self.rested, identifier);
+        next.resting = resting::with_one_more(self.resting, self.rested, identifier);
         if self.rested < 16 {
             next.rested = self.rested + 1;
         }
@@ -150,10 +150,10 @@ impl Book {
             return false;
         }
         let sixteen = self.resting;
-        if !resting::span(sixteen, self.rested) {
+        if !resting::all_in_span(sixteen, self.rested) {
             return false;
         }
         let seen = self.open_seen();
-        resting::unseen(seen, sixteen, self.rested)
+        resting::all_new(seen, sixteen, self.rested)
     }
 }

@@ -10,7 +10,7 @@ ghost use Rattle.book.specs.Marks.{newIn};
 use crate::Seen;
 
 // Does the identifier rest?
-pub fn rests(resting: [u8; 16], n: u8, identifier: u8) -> bool
+pub fn is_resting(resting: [u8; 16], n: u8, identifier: u8) -> bool
     requires { ⌜ n ≤ 16 ⌝ }
     ensures { λ r. ⌜ r ≡ member identifier (take n resting) ⌝ }
 {
@@ -26,7 +26,7 @@ pub fn rests(resting: [u8; 16], n: u8, identifier: u8) -> bool
 }
 
 // The array of those that rest once one more does; the oldest leaves it where it is full.
-pub fn rested(resting: [u8; 16], n: u8, identifier: u8) -> [u8; 16]
+pub fn with_one_more(resting: [u8; 16], n: u8, identifier: u8) -> [u8; 16]
     requires { ⌜ n ≤ 16 ⌝ }
     ensures { λ r. ⌜ r ≡ restedIn resting (rests (take n resting) identifier) ⌝ }
 {
@@ -45,7 +45,7 @@ pub fn rested(resting: [u8; 16], n: u8, identifier: u8) -> [u8; 16]
 }
 
 // Is each identifier that rests one of 0 to 127?
-pub fn span(resting: [u8; 16], n: u8) -> bool
+pub fn all_in_span(resting: [u8; 16], n: u8) -> bool
     requires { ⌜ n ≤ 16 ⌝ }
     ensures { λ r. ⌜ r ≡ allSpan (take n resting) ⌝ }
 {
@@ -61,7 +61,7 @@ pub fn span(resting: [u8; 16], n: u8) -> bool
 }
 
 // Did none come twice before, and is each that rests new, among those seen and among those that rest?
-pub fn unseen(seen: Seen, resting: [u8; 16], n: u8) -> bool
+pub fn all_new(seen: Seen, resting: [u8; 16], n: u8) -> bool
     requires { ⌜ (n ≤ 16) × (allSpan (take n resting) ≡ true) ⌝ }
     ensures { λ r. ⌜ r ≡ (seen .once && newIn (seen .marks) (take n resting)) ⌝ }
 {

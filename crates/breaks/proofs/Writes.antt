@@ -14,16 +14,16 @@ use Rattle.ground.specs.Refusal.{verdict}
 use Rattle.ground.specs.Answer.{Writes}
 use Rattle.ground.specs.declared.Verdict.{Verdict}
 use Rattle.ground.specs.declared.Verdict.the-variants.{Pass}
-use Rattle.ground.specs.declared.Written.the-variants.{Wrote}
+use Rattle.ground.specs.declared.WriteAnswer.the-variants.{Wrote}
 use Rattle.ground.proofs.Picks.{each}
 use Rattle.ground.proofs.Verdicts.{passed}
-use Rattle.field.specs.Layout.{octets, join, Room}
+use Rattle.field.specs.Layout.{octets, join, InWidth}
 use Rattle.field.proofs.Laws.{chain}
 use Rattle.field.proofs.Stores.{stored-writes}
 use Rattle.breaks.specs.Break.{layout, breakFits, breakOctets, writeTests}
 use Rattle.breaks.specs.declared.Break.{Break}
 
-pub fits-room : (b : Break) → breakFits b ≡ true → Room (layout b)
+pub fits-room : (b : Break) → breakFits b ≡ true → InWidth (layout b)
 unfolding breakFits
 fits-room b e =
     let t = each (ltb (b .source) 3 ∷ ltb (b .kind) 4 ∷ leb (b .lasts) 255 ∷ []) e in

@@ -33,7 +33,7 @@ abbrev pub readTests : List ℕ → List Test
 readTests s = must (eqb (length s) 2) LENGTH ∷ must (breakFits (breakAt s)) RANGE ∷ []
 
 abbrev pub writeTests : Break → ℕ → List Test
-writeTests b room = must (breakFits b) RANGE ∷ must (leb 2 room) ROOM ∷ []
+writeTests b space = must (breakFits b) RANGE ∷ must (leb 2 space) ROOM ∷ []
 
 -- what each case of a reading stands for: source, type and length, or the refusal's number
 abbrev pub answerOf : Reading → Answer

@@ -6,7 +6,7 @@ ghost use Rattle.ground.specs.Answer.{Gives, Writes};
 ghost use Rattle.breaks.specs.Break.{breakAt, breakFits, breakOctets, answerOf, readTests, writeTests};
 use ground::Refusal;
 use ground::Verdict;
-use ground::Written;
+use ground::WriteAnswer;
 
 pub struct Break {
     // The protocol that it came by: 0 LAPM, 1 Annex A of V.42, 2 V.14.
@@ -63,13 +63,13 @@ pub fn read(s: &[u8]) -> Reading
     }
 }
 
-fn write_verdict(b: Break, room: usize) -> Verdict
-    ensures { λ r. ⌜ r ≡ verdict (writeTests b room) ⌝ }
+fn write_verdict(b: Break, space: usize) -> Verdict
+    ensures { λ r. ⌜ r ≡ verdict (writeTests b space) ⌝ }
 {
     if break_fits(b) {} else {
         return Verdict::Refuse(Refusal::RANGE);
     }
-    if 2 <= room {
+    if 2 <= space {
         Verdict::Pass
     } else {
         Verdict::Refuse(Refusal::ROOM)
@@ -77,15 +77,15 @@ fn write_verdict(b: Break, room: usize) -> Verdict
 }
 
 // A body written: RANGE, ROOM.
-pub fn write(out: &mut [u8], b: Break) -> Written
+pub fn write(out: &mut [u8], b: Break) -> WriteAnswer
     ensures { λ r. ⌜ Writes (writeTests b (length (now (out .entry)))) (breakOctets b) (now (out .entry)) (now (out .exit)) r ⌝ }
 {
     match write_verdict(b, out.len()) {
-        Verdict::Refuse(r) => Written::Refused(r),
+        Verdict::Refuse(r) => WriteAnswer::Refused(r),
         Verdict::Pass => {
             let word = ((b.source as u16) << 4 | b.kind as u16) << 8 | b.lasts as u16;
             field::put_word(out, 0, word);
-            Written::Wrote(2)
+            WriteAnswer::Wrote(2)
         }
     }
 }

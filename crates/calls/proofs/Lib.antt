@@ -1,3 +1,3 @@
-pub mod Firsts
-pub mod Dids
+pub mod FirstTests
+pub mod Results
 pub mod Refusing

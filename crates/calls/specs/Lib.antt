@@ -1,3 +1,3 @@
 pub mod Call
 pub mod Order
-pub mod Did
+pub mod Result

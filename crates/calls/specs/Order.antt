@@ -17,16 +17,16 @@ use Rattle.mode.specs.declared.Modes.{Modes}
 use Rattle.line.specs.Fit.{settingsFit}
 use Rattle.line.specs.declared.Line.{Line}
 use Rattle.line.specs.declared.Settings.{Settings}
-use Rattle.relay.specs.Asked.{relayTests}
+use Rattle.relay.specs.RelayTests.{relayChannelTests}
 use Rattle.relay.specs.Take.{takeCallTests}
 use Rattle.relay.specs.HandOut.{handCallTests}
 use Rattle.writing.specs.Write.{emptyTests}
 use Rattle.writing.specs.Send.{sendTests}
 use Rattle.arriving.specs.Arrive.{arriveTests}
-use Rattle.book.specs.Book.{lineOf, bookFits, whose, taken}
+use Rattle.book.specs.Book.{lineOf, bookFits, ownerOf, taken}
 use Rattle.book.specs.declared.Book.{Book}
-use Rattle.book.specs.declared.Whose.{Whose}
-use Rattle.book.specs.declared.Whose.the-variants.{At, Nobody}
+use Rattle.book.specs.declared.Owner.{Owner}
+use Rattle.book.specs.declared.Owner.the-variants.{At, Nobody}
 use Rattle.calls.specs.Call.{Call}
 use Rattle.calls.specs.Call as call
 
@@ -49,7 +49,7 @@ openTests b i s = must (not (lineOf b i .opened)) TAKEN ∷ must (settingsFit (s
 
 -- "Closing: NOLINE, ROOM."; a slip has 12 octets
 unfoldable pub closeTests : Line → ℕ → List Test
-closeTests l room = isOpen l ∷ must (leb 12 room) ROOM ∷ []
+closeTests l space = isOpen l ∷ must (leb 12 space) ROOM ∷ []
 
 -- "Mode calls: NOLINE, CLOCK, RECOVERY, RANGE, MODE."
 abbrev pub actTests : Modes → Act → List Test
@@ -61,14 +61,14 @@ unfoldable pub modeTests : Line → Act → List Test
 modeTests l a = isOpen l ∷ actTests (l .modes) a
 
 -- the open line that has the packet's identifier: "Taking the line from the caller and not from the packet's identifier" is an error
-abbrev pub packetLine : Book → List ℕ → Whose
-packetLine b s = whose b (headAt s .identifier)
+abbrev pub packetLine : Book → List ℕ → Owner
+packetLine b s = ownerOf b (headAt s .identifier)
 
-abbrev pub isSomebody : Whose → Bool
+abbrev pub isSomebody : Owner → Bool
 isSomebody (At i) = true
 isSomebody Nobody = false
 
-abbrev pub lineAt : Whose → ℕ
+abbrev pub lineAt : Owner → ℕ
 lineAt (At i) = i
 lineAt Nobody = 0
 
@@ -94,12 +94,12 @@ lineFor (call.report i channel) b = i
 
 -- every call's tests, in order. Of the store and of the output only the length counts.
 unfoldable pub tests : Call → Book → ℕ → ℕ → List Test
-tests (call.opening i s time) b store room = fitBook b ∷ lineNumber i ∷ openTests b i s
-tests (call.closing i) b store room = fitBook b ∷ lineNumber i ∷ closeTests (lineOf b i) room
-tests (call.mode i a) b store room = fitBook b ∷ lineNumber i ∷ modeTests (lineOf b i) a
-tests (call.taking i channel message) b store room = fitBook b ∷ roomy store ∷ lineNumber i ∷ takeCallTests (lineOf b i) channel (length message)
-tests (call.sending i channel rank) b store room = fitBook b ∷ roomy store ∷ lineNumber i ∷ sendTests (lineOf b i) channel rank room
-tests (call.empty i channel) b store room = fitBook b ∷ lineNumber i ∷ emptyTests (lineOf b i) channel room
-tests (call.arrival s) b store room = fitBook b ∷ roomy store ∷ arrivalTests b s
-tests (call.handOut i channel) b store room = fitBook b ∷ roomy store ∷ lineNumber i ∷ handCallTests (lineOf b i) channel room
-tests (call.report i channel) b store room = fitBook b ∷ lineNumber i ∷ relayTests (lineOf b i) channel
+tests (call.opening i s time) b store space = fitBook b ∷ lineNumber i ∷ openTests b i s
+tests (call.closing i) b store space = fitBook b ∷ lineNumber i ∷ closeTests (lineOf b i) space
+tests (call.mode i a) b store space = fitBook b ∷ lineNumber i ∷ modeTests (lineOf b i) a
+tests (call.taking i channel message) b store space = fitBook b ∷ roomy store ∷ lineNumber i ∷ takeCallTests (lineOf b i) channel (length message)
+tests (call.sending i channel rank) b store space = fitBook b ∷ roomy store ∷ lineNumber i ∷ sendTests (lineOf b i) channel rank space
+tests (call.empty i channel) b store space = fitBook b ∷ lineNumber i ∷ emptyTests (lineOf b i) channel space
+tests (call.arrival s) b store space = fitBook b ∷ roomy store ∷ arrivalTests b s
+tests (call.handOut i channel) b store space = fitBook b ∷ roomy store ∷ lineNumber i ∷ handCallTests (lineOf b i) channel space
+tests (call.report i channel) b store space = fitBook b ∷ lineNumber i ∷ relayChannelTests (lineOf b i) channel

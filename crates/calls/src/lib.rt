@@ -10,18 +10,18 @@ ghost use Rattle.calls.specs.Order.{fitBook, roomy, lineNumber, isOpen, 
 use book::Book;
 use ground::Refusal;
 use ground::Verdict;
-use ground::Written;
+use ground::WriteAnswer;
 use line::Settings;
 use store::Region;
 
 // What a call leaves that writes into an output: how many octets were written there.
-pub struct Gave {
+pub struct Written {
     pub book: Book,
-    pub answer: Written,
+    pub answer: WriteAnswer,
 }
 
 // BOOK, RANGE for the line.
-pub fn on_line(book: Book, line: u8) -> Verdict
+pub fn line_verdict(book: Book, line: u8) -> Verdict
     ensures { λ r. ⌜ r ≡ verdict (fitBook book ∷ lineNumber line ∷ []) ⌝ }
 {
     if !book.fits() {
@@ -35,7 +35,7 @@ pub fn on_line(book: Book, line: u8) -> Verdict
 }
 
 // BOOK, ROOM for the store.
-pub fn on_store(book: Book, store: usize) -> Verdict
+pub fn store_verdict(book: Book, store: usize) -> Verdict
     ensures { λ r. ⌜ r ≡ verdict (fitBook book ∷ roomy store ∷ []) ⌝ }
 {
     if !book.fits() {
@@ -49,11 +49,11 @@ pub fn on_store(book: Book, store: usize) -> Verdict
 }
 
 // BOOK, ROOM for the store, RANGE for the line.
-pub fn on_both(book: Book, store: usize, line: u8) -> Verdict
+pub fn store_line_verdict(book: Book, store: usize, line: u8) -> Verdict
     ensures { λ r. ⌜ r ≡ verdict (fitBook book ∷ roomy store ∷ lineNumber line ∷ []) ⌝ }
 {
-    let first = on_store(book, store);
-    match first {
+    let earlier = store_verdict(book, store);
+    match earlier {
         Verdict::Refuse(r) => Verdict::Refuse(r),
         Verdict::Pass => {
             if line <= 3 {
@@ -87,22 +87,22 @@ fn may_open_line(book: Book, line: u8, settings: Settings) -> Verdict
 pub fn may_open(book: Book, line: u8, settings: Settings) -> Verdict
     ensures { λ r. ⌜ r ≡ verdict (fitBook book ∷ lineNumber line ∷ openTests book line settings) ⌝ }
 {
-    let first = on_line(book, line);
-    match first {
+    let earlier = line_verdict(book, line);
+    match earlier {
         Verdict::Refuse(r) => Verdict::Refuse(r),
         Verdict::Pass => may_open_line(book, line, settings),
     }
 }
 
 // May a line be closed? BOOK, RANGE for the line, NOLINE, ROOM for the slip.
-pub fn may_close(book: Book, line: u8, room: usize) -> Verdict
-    ensures { λ r. ⌜ r ≡ verdict (fitBook book ∷ lineNumber line ∷ closeTests (lineOf book line) room) ⌝ }
+pub fn may_close(book: Book, line: u8, space: usize) -> Verdict
+    ensures { λ r. ⌜ r ≡ verdict (fitBook book ∷ lineNumber line ∷ closeTests (lineOf book line) space) ⌝ }
 {
-    let first = may_move(book, line);
-    match first {
+    let earlier = may_change_mode(book, line);
+    match earlier {
         Verdict::Refuse(r) => Verdict::Refuse(r),
         Verdict::Pass => {
-            if 12 <= room {
+            if 12 <= space {
                 Verdict::Pass
             } else {
                 Verdict::Refuse(Refusal::ROOM)
@@ -112,11 +112,11 @@ pub fn may_close(book: Book, line: u8, room: usize) -> Verdict
 }
 
 // What a mode call asks before its own tests: BOOK, RANGE for the line, NOLINE.
-pub fn may_move(book: Book, line: u8) -> Verdict
+pub fn may_change_mode(book: Book, line: u8) -> Verdict
     ensures { λ r. ⌜ r ≡ verdict (fitBook book ∷ lineNumber line ∷ isOpen (lineOf book line) ∷ []) ⌝ }
 {
-    let first = on_line(book, line);
-    match first {
+    let earlier = line_verdict(book, line);
+    match earlier {
         Verdict::Refuse(r) => Verdict::Refuse(r),
         Verdict::Pass => {
             if book.line(line).opened {

@@ -6,8 +6,8 @@
 // and owed lists are full.
 ghost use Prim.Native.Nat.{_≤_};
 use book::Book;
-use gateway::Report;
-use ground::Written;
+use gateway::HeldAnswer;
+use ground::WriteAnswer;
 use line::Settings;
 use mode::Modes;
 use words::Number;
@@ -70,14 +70,14 @@ fn refused(book: Book, asked: bool, count: u64) -> u64 {
     }
     let report = gateway::held(book, 9, 1);
     match report {
-        Report::Refused(r) => {
+        HeldAnswer::Refused(r) => {
             if ground::number(r) == 13 {
                 more(count, 1)
             } else {
                 count
             }
         }
-        Report::Holds(_) => count,
+        HeldAnswer::Holds(_) => count,
     }
 }
 
@@ -119,8 +119,8 @@ fn there(
     let gave = gateway::send(took.book, a, 0, 1, 0, packet);
     let answer = gave.answer;
     match answer {
-        Written::Refused(_) => work,
-        Written::Wrote(n) => {
+        WriteAnswer::Refused(_) => work,
+        WriteAnswer::Wrote(n) => {
             if packet.len() < n {
                 return work;
             }
@@ -144,8 +144,8 @@ fn heard(work: Work, check: bool, a: &mut [u8], packet: &mut [u8]) -> Work {
     let gave = gateway::empty(work.b, 0, 1, packet);
     let answer = gave.answer;
     match answer {
-        Written::Refused(_) => work,
-        Written::Wrote(n) => {
+        WriteAnswer::Refused(_) => work,
+        WriteAnswer::Wrote(n) => {
             if packet.len() < n {
                 return work;
             }
@@ -169,8 +169,8 @@ fn handed(work: Work, check: bool, b: &[u8], out: &mut [u8]) -> Given {
     let gave = gateway::hand_out(work.b, b, 0, 1, out);
     let answer = gave.answer;
     match answer {
-        Written::Refused(_) => Given { work, size: 0 },
-        Written::Wrote(size) => {
+        WriteAnswer::Refused(_) => Given { work, size: 0 },
+        WriteAnswer::Wrote(size) => {
             let far = gave.book;
             Given {
                 work: Work {

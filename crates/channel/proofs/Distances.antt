@@ -34,23 +34,23 @@ pub never-future : (w stale k S : ℕ) → w + stale ≤ modulus → k < S → S
 never-future w stale k S wide l fresh = omega (arith, dist-down k S l (omega arith))
 
 -- A place is one of the window's.
-pub place-lt : (w first i : ℕ) → first < w → i ≤ w → placeOf first i w < w
-place-lt w first i l k = pick-lt (λ (p : ℕ). p < w) (first + i) w (λ q. q) (λ q. omega arith)
+pub place-lt : (w origin i : ℕ) → origin < w → i ≤ w → placeOf origin i w < w
+place-lt w origin i l k = pick-lt (λ (p : ℕ). p < w) (origin + i) w (λ q. q) (λ q. omega arith)
 
 -- two messages of one window have two places
-pub place-once : (w first i j : ℕ) → first < w → i < w → j < w → placeOf first i w ≡ placeOf first j w → i ≡ j
-place-once w first i j l a b =
-    pick-lt (λ (p : ℕ). p ≡ placeOf first j w → i ≡ j) (first + i) w
-    (λ q. pick-lt (λ (p : ℕ). first + i ≡ p → i ≡ j) (first + j) w (λ s e. omega arith) (λ s e. omega arith))
-    (λ q. pick-lt (λ (p : ℕ). first + i - w ≡ p → i ≡ j) (first + j) w (λ s e. omega arith) (λ s e. omega arith))
+pub place-once : (w origin i j : ℕ) → origin < w → i < w → j < w → placeOf origin i w ≡ placeOf origin j w → i ≡ j
+place-once w origin i j l a b =
+    pick-lt (λ (p : ℕ). p ≡ placeOf origin j w → i ≡ j) (origin + i) w
+    (λ q. pick-lt (λ (p : ℕ). origin + i ≡ p → i ≡ j) (origin + j) w (λ s e. omega arith) (λ s e. omega arith))
+    (λ q. pick-lt (λ (p : ℕ). origin + i - w ≡ p → i ≡ j) (origin + j) w (λ s e. omega arith) (λ s e. omega arith))
 
 -- a message stays in its place when the oldest moves on
-pub place-stays : (w first d i : ℕ) → first < w → d + i ≤ w → placeOf (placeOf first d w) i w ≡ placeOf first (d + i) w
-place-stays w first d i l k =
-    pick-lt (λ (p : ℕ). placeOf p i w ≡ placeOf first (d + i) w) (first + d) w
-    (λ q. pick-lt (λ (p : ℕ). p ≡ placeOf first (d + i) w) (first + d + i) w
-    (λ s. pick-lt (λ (p : ℕ). first + d + i ≡ p) (first + (d + i)) w (λ t. omega arith) (λ t. absurd (omega arith)))
-    (λ s. pick-lt (λ (p : ℕ). first + d + i - w ≡ p) (first + (d + i)) w (λ t. absurd (omega arith)) (λ t. omega arith)))
-    (λ q. pick-lt (λ (p : ℕ). p ≡ placeOf first (d + i) w) (first + d - w + i) w
-    (λ s. pick-lt (λ (p : ℕ). first + d - w + i ≡ p) (first + (d + i)) w (λ t. absurd (omega arith)) (λ t. omega arith))
+pub place-stays : (w origin d i : ℕ) → origin < w → d + i ≤ w → placeOf (placeOf origin d w) i w ≡ placeOf origin (d + i) w
+place-stays w origin d i l k =
+    pick-lt (λ (p : ℕ). placeOf p i w ≡ placeOf origin (d + i) w) (origin + d) w
+    (λ q. pick-lt (λ (p : ℕ). p ≡ placeOf origin (d + i) w) (origin + d + i) w
+    (λ s. pick-lt (λ (p : ℕ). origin + d + i ≡ p) (origin + (d + i)) w (λ t. omega arith) (λ t. absurd (omega arith)))
+    (λ s. pick-lt (λ (p : ℕ). origin + d + i - w ≡ p) (origin + (d + i)) w (λ t. absurd (omega arith)) (λ t. omega arith)))
+    (λ q. pick-lt (λ (p : ℕ). p ≡ placeOf origin (d + i) w) (origin + d - w + i) w
+    (λ s. pick-lt (λ (p : ℕ). origin + d - w + i ≡ p) (origin + (d + i)) w (λ t. absurd (omega arith)) (λ t. omega arith))
     (λ s. absurd (omega arith)))

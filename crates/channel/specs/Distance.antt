@@ -11,4 +11,4 @@ dist n h = (n % modulus + (modulus - h % modulus)) % modulus
 
 -- where the message lies that is i past the one at place first, in a window of w places: at first + i, less w where that runs over
 abbrev pub placeOf : ℕ → ℕ → ℕ → ℕ
-placeOf first i w = pick (ltb (first + i) w) (first + i) (first + i - w)
+placeOf origin i w = pick (ltb (origin + i) w) (origin + i) (origin + i - w)

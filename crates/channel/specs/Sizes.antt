@@ -16,12 +16,12 @@ sizeFits z size = ltb 0 size && leb size z
 
 -- the size of the message that is i past the one at place first
 abbrev pub sizeOf : ℕ → List ℕ → ℕ → ℕ → ℕ
-sizeOf w sizes first i = getD sizes (placeOf first i w) 0
+sizeOf w sizes origin i = getD sizes (placeOf origin i w) 0
 
 -- message i of the set, if it is in it, has a size that fits
 abbrev pub sizeAt : ℕ → ℕ → List ℕ → ℕ → ℕ → ℕ → Bool
-sizeAt w z sizes m first i = pick (bitOf m i) (sizeFits z (sizeOf w sizes first i)) true
+sizeAt w z sizes m origin i = pick (bitOf m i) (sizeFits z (sizeOf w sizes origin i)) true
 
 -- "or either of 0 or over 132 octets": no message of the set is
 unfoldable pub sizesFit : ℕ → ℕ → List ℕ → ℕ → ℕ → Bool
-sizesFit w z sizes m first = every w (sizeAt w z sizes m first)
+sizesFit w z sizes m origin = every w (sizeAt w z sizes m origin)

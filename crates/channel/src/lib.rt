@@ -55,10 +55,10 @@ pub fn distance(n: u32, h: u32) -> u32
 }
 
 // Where the message lies that is i past the one at place first: at first + i, less the window where that runs over.
-pub fn place(first: u32, i: u32, window: u32) -> u32
-    requires { ⌜ first + i < 2 ^ 32 ⌝ }
-    ensures { λ r. ⌜ r ≡ placeOf first i window ⌝ }
+pub fn place(origin: u32, i: u32, window: u32) -> u32
+    requires { ⌜ origin + i < 2 ^ 32 ⌝ }
+    ensures { λ r. ⌜ r ≡ placeOf origin i window ⌝ }
 {
-    let at = first + i;
+    let at = origin + i;
     if at < window { at } else { at - window }
 }

@@ -15,15 +15,15 @@ pub fn size_fits(size: u16, largest: u16) -> bool
 
 // Has each message of the set, the oldest of which lies at place first, 1 to `largest` octets? Only places of the set are looked
 // at, and nothing past the highest.
-pub fn sizes_fit(sizes: [u16; 32], set: Places, first: u32, window: u32, largest: u16) -> bool
-    requires { ⌜ (first < window) × (window ≤ widest) × (maskOf set < 2 ^ window) ⌝ }
-    ensures { λ r. ⌜ r ≡ sizesFit window largest sizes (maskOf set) first ⌝ }
+pub fn sizes_fit(sizes: [u16; 32], set: Places, origin: u32, window: u32, largest: u16) -> bool
+    requires { ⌜ (origin < window) × (window ≤ widest) × (maskOf set < 2 ^ window) ⌝ }
+    ensures { λ r. ⌜ r ≡ sizesFit window largest sizes (maskOf set) origin ⌝ }
 {
     let mut rest = set;
     let mut i = 0;
     while !rest.empty() {
         if rest.has(0) {
-            let at = place(first, i, window) as usize;
+            let at = place(origin, i, window) as usize;
             if !size_fits(sizes[at], largest) {
                 return false;
             }

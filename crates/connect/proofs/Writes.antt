@@ -16,10 +16,10 @@ use Rattle.ground.specs.Refusal.{verdict}
 use Rattle.ground.specs.Answer.{Writes}
 use Rattle.ground.specs.declared.Verdict.{Verdict}
 use Rattle.ground.specs.declared.Verdict.the-variants.{Pass}
-use Rattle.ground.specs.declared.Written.the-variants.{Wrote}
+use Rattle.ground.specs.declared.WriteAnswer.the-variants.{Wrote}
 use Rattle.ground.proofs.Picks.{each, both-true, pick-by}
 use Rattle.ground.proofs.Verdicts.{Holds, passed}
-use Rattle.field.specs.Layout.{Field, of, wordOctets, join, packed, Room}
+use Rattle.field.specs.Layout.{Field, of, wordOctets, join, packed, InWidth}
 use Rattle.field.proofs.Laws.{join-is, chain}
 use Rattle.field.proofs.Packs.{Words, joined, words-packed, words-take}
 use Rattle.field.proofs.Stores.{stored-writes}
@@ -91,7 +91,7 @@ module _ (c : Connect) where
       (λ _ e. let b = both-true (nothing (c .transmit)) (nothing (c .receive)) e in (none-small (c .transmit) (b .0), none-small (c .receive) (b .1))))
 
   -- the first four words have room where the numbers fit
-  pub base-room : numbersFit c ≡ true → Room (baseFields c)
+  pub base-room : numbersFit c ≡ true → InWidth (baseFields c)
   unfolding numbersFit
   base-room e =
       let t = each (ltb (c .modulation) 31 ∷ ltb (c .direction) 4 ∷ ltb (c .compression) 4 ∷ ltb (c .correction) 3 ∷ leb (c .transmit .rate) 65535 ∷ leb (c .receive .rate) 65535 ∷ []) e in

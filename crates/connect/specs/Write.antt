@@ -42,8 +42,8 @@ connectOctets c = packed (baseFields c ++ sizeFields c)
 
 -- "written: RESERVED, RANGE, ROOM"
 abbrev pub writeTests : Connect → ℕ → List Test
-writeTests c room =
+writeTests c space =
     must (not (reserved (c .compression))) RESERVED
     ∷ must (numbersFit c && sizesFit c) RANGE
-    ∷ must (leb (length (connectOctets c)) room) ROOM
+    ∷ must (leb (length (connectOctets c)) space) ROOM
     ∷ []

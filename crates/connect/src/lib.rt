@@ -14,7 +14,7 @@ ghost use Rattle.field.specs.Layout.{join};
 ghost use lib.Seq.{sets};
 use ground::Refusal;
 use ground::Verdict;
-use ground::Written;
+use ground::WriteAnswer;
 
 // What is told of one direction of the link. What has no place in the body is 0.
 pub struct Way {
@@ -113,13 +113,13 @@ fn size_of(compression: u8) -> usize
     8
 }
 
-fn is_nothing(w: Way) -> bool
+fn is_plain(w: Way) -> bool
     ensures { λ r. ⌜ r ≡ nothing w ⌝ }
 {
     (w.dictionary == 0) & (w.string == 0) & (w.history == 0)
 }
 
-fn is_bis(w: Way) -> bool
+fn is_v42bis(w: Way) -> bool
     ensures { λ r. ⌜ r ≡ bisWay w ⌝ }
 {
     (512 <= w.dictionary)
@@ -129,7 +129,7 @@ fn is_bis(w: Way) -> bool
         & (w.history == 0)
 }
 
-fn is_rich(w: Way) -> bool
+fn is_v44(w: Way) -> bool
     ensures { λ r. ⌜ r ≡ richWay w ⌝ }
 {
     (256 <= w.dictionary)
@@ -147,12 +147,12 @@ fn sizes_fit(c: Connect) -> bool
     let transmit = c.transmit;
     let receive = c.receive;
     if c.compression == 1 {
-        return is_bis(transmit) & is_nothing(receive);
+        return is_v42bis(transmit) & is_plain(receive);
     }
     if c.compression == 2 {
-        return is_rich(transmit) & is_rich(receive);
+        return is_v44(transmit) & is_v44(receive);
     }
-    is_nothing(transmit) & is_nothing(receive)
+    is_plain(transmit) & is_plain(receive)
 }
 
 fn read_verdict(s: &[u8]) -> Verdict
@@ -242,8 +242,8 @@ fn numbers_fit(c: Connect) -> bool
         & (c.receive.rate <= 65535)
 }
 
-fn write_verdict(c: Connect, room: usize) -> Verdict
-    ensures { λ r. ⌜ r ≡ verdict (writeTests c room) ⌝ }
+fn write_verdict(c: Connect, space: usize) -> Verdict
+    ensures { λ r. ⌜ r ≡ verdict (writeTests c space) ⌝ }
 {
     let compression = c.compression;
     if (4 <= compression) & (compression <= 15) {
@@ -252,7 +252,7 @@ fn write_verdict(c: Connect, room: usize) -> Verdict
     if numbers_fit(c) & sizes_fit(c) {} else {
         return Verdict::Refuse(Refusal::RANGE);
     }
-    if size_of(compression) <= room {
+    if size_of(compression) <= space {
         Verdict::Pass
     } else {
         Verdict::Refuse(Refusal::ROOM)
@@ -260,11 +260,11 @@ fn write_verdict(c: Connect, room: usize) -> Verdict
 }
 
 // A body written: RESERVED, RANGE, ROOM.
-pub fn write(out: &mut [u8], c: Connect) -> Written
+pub fn write(out: &mut [u8], c: Connect) -> WriteAnswer
     ensures { λ r. ⌜ Writes (writeTests c (length (now (out .entry)))) (connectOctets c) (now (out .entry)) (now (out .exit)) r ⌝ }
 {
     match write_verdict(c, out.len()) {
-        Verdict::Refuse(r) => Written::Refused(r),
-        Verdict::Pass => Written::Wrote(put(out, c)),
+        Verdict::Refuse(r) => WriteAnswer::Refused(r),
+        Verdict::Pass => WriteAnswer::Wrote(put(out, c)),
     }
 }

@@ -1,1 +1,1 @@
-pub mod Rooms
+pub mod Slots

@@ -114,7 +114,7 @@ fn write_connect(s: &[u8], at: usize, out: &mut [u8]) -> usize {
         return 0;
     }
     let mut body = [0u8; 600];
-    let room = asked.room(18);
+    let room = asked.slot(18);
     let answer = connect::write(&mut body[0..room], connect_of(asked));
     wrote(answer, &body, out)
 }
@@ -151,7 +151,7 @@ fn write_break(s: &[u8], at: usize, out: &mut [u8]) -> usize {
         lasts: asked.octet(2),
     };
     let mut body = [0u8; 600];
-    let room = asked.room(3);
+    let room = asked.slot(3);
     let answer = breaks::write(&mut body[0..room], value);
     wrote(answer, &body, out)
 }

@@ -39,7 +39,7 @@ fn close(book: Book, s: &[u8], at: usize, out: &mut [u8]) -> Made {
         return Made { book, said: 0 };
     }
     let mut slip = [0u8; 600];
-    let room = asked.room(1);
+    let room = asked.slot(1);
     let gave = gateway::close(book, asked.octet(0), &mut slip[0..room]);
     let answer = gave.answer;
     let said = says::wrote(answer, &slip, out);
@@ -114,7 +114,7 @@ fn send(book: Book, store: &[u8], s: &[u8], at: usize, out: &mut [u8]) -> Made {
         return Made { book, said: 0 };
     }
     let mut packet = [0u8; 600];
-    let room = asked.room(3);
+    let room = asked.slot(3);
     let gave = gateway::send(
         book,
         store,
@@ -136,7 +136,7 @@ fn empty(book: Book, s: &[u8], at: usize, out: &mut [u8]) -> Made {
         return Made { book, said: 0 };
     }
     let mut packet = [0u8; 600];
-    let room = asked.room(2);
+    let room = asked.slot(2);
     let gave = gateway::empty(book, asked.octet(0), asked.octet(1), &mut packet[0..room]);
     let answer = gave.answer;
     let said = says::wrote(answer, &packet, out);
@@ -166,7 +166,7 @@ fn hand_out(book: Book, store: &[u8], s: &[u8], at: usize, out: &mut [u8]) -> Ma
         return Made { book, said: 0 };
     }
     let mut message = [0u8; 600];
-    let room = asked.room(2);
+    let room = asked.slot(2);
     let gave = gateway::hand_out(
         book,
         store,

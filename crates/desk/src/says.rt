@@ -1,23 +1,23 @@
 // What the calls answered, in the script's words, put into an output of the desk. Each answers how many octets it put.
-use gateway::Arrived;
-use gateway::Report;
-use gateway::Taken;
+use gateway::ArriveAnswer;
+use gateway::HeldAnswer;
+use gateway::TakeAnswer;
 use ground::Verdict;
-use ground::Written;
-use mode::Asked;
-use mode::Heard;
-use mode::Ticked;
+use ground::WriteAnswer;
+use mode::AskAnswer;
+use mode::HearAnswer;
+use mode::TickAnswer;
 
 // Puts the answer of a call that wrote octets into an output of 600.
-pub fn wrote(answer: Written, octets: &[u8; 600], out: &mut [u8]) -> usize {
+pub fn wrote(answer: WriteAnswer, octets: &[u8; 600], out: &mut [u8]) -> usize {
     written(answer, octets, out)
 }
 
 // Puts the answer of a call that wrote octets.
-fn written(answer: Written, octets: &[u8], out: &mut [u8]) -> usize {
+fn written(answer: WriteAnswer, octets: &[u8], out: &mut [u8]) -> usize {
     match answer {
-        Written::Refused(r) => words::refusal(out, r),
-        Written::Wrote(n) => {
+        WriteAnswer::Refused(r) => words::refusal(out, r),
+        WriteAnswer::Wrote(n) => {
             let said = words::put(out, 0, b"ok");
             if octets.len() < n {
                 return 0;
@@ -48,10 +48,10 @@ pub fn opened(answer: Verdict, out: &mut [u8]) -> usize {
 }
 
 // Puts the answer to an indication: S, and whether a P' notice is to be sent.
-pub fn heard(answer: Heard, out: &mut [u8]) -> usize {
+pub fn heard(answer: HearAnswer, out: &mut [u8]) -> usize {
     match answer {
-        Heard::Refused(r) => words::refusal(out, r),
-        Heard::Mode(local, notice) => {
+        HearAnswer::Refused(r) => words::refusal(out, r),
+        HearAnswer::Mode(local, notice) => {
             let ok = words::put(out, 0, b"ok");
             let named = lettered(out, ok, local);
             if notice {
@@ -64,10 +64,10 @@ pub fn heard(answer: Heard, out: &mut [u8]) -> usize {
 }
 
 // Puts the answer to a request: S.
-pub fn granted(answer: Asked, out: &mut [u8]) -> usize {
+pub fn granted(answer: AskAnswer, out: &mut [u8]) -> usize {
     match answer {
-        Asked::Refused(r) => words::refusal(out, r),
-        Asked::Mode(local) => {
+        AskAnswer::Refused(r) => words::refusal(out, r),
+        AskAnswer::Mode(local) => {
             let ok = words::put(out, 0, b"ok");
             lettered(out, ok, local)
         }
@@ -75,12 +75,12 @@ pub fn granted(answer: Asked, out: &mut [u8]) -> usize {
 }
 
 // Puts the answer to a tick.
-pub fn due(answer: Ticked, out: &mut [u8]) -> usize {
+pub fn due(answer: TickAnswer, out: &mut [u8]) -> usize {
     match answer {
-        Ticked::Refused(r) => words::refusal(out, r),
-        Ticked::Quiet => words::put(out, 0, b"ok quiet"),
-        Ticked::Ended => words::put(out, 0, b"ok ended"),
-        Ticked::Audio(n) => {
+        TickAnswer::Refused(r) => words::refusal(out, r),
+        TickAnswer::Quiet => words::put(out, 0, b"ok quiet"),
+        TickAnswer::Ended => words::put(out, 0, b"ok ended"),
+        TickAnswer::Audio(n) => {
             let ok = words::put(out, 0, b"ok audio");
             words::decimal(out, ok, n as u64)
         }
@@ -88,26 +88,26 @@ pub fn due(answer: Ticked, out: &mut [u8]) -> usize {
 }
 
 // Puts the answer of a message taken.
-pub fn taken(answer: Taken, out: &mut [u8]) -> usize {
+pub fn taken(answer: TakeAnswer, out: &mut [u8]) -> usize {
     match answer {
-        Taken::Refused(r) => words::refusal(out, r),
-        Taken::Number(_) => words::put(out, 0, b"ok"),
+        TakeAnswer::Refused(r) => words::refusal(out, r),
+        TakeAnswer::Number(_) => words::put(out, 0, b"ok"),
     }
 }
 
 // Puts the answer of an arrival.
-pub fn arrived(answer: Arrived, out: &mut [u8]) -> usize {
+pub fn arrived(answer: ArriveAnswer, out: &mut [u8]) -> usize {
     match answer {
-        Arrived::Refused(r) => words::refusal(out, r),
-        Arrived::At(_) => words::put(out, 0, b"ok"),
+        ArriveAnswer::Refused(r) => words::refusal(out, r),
+        ArriveAnswer::At(_) => words::put(out, 0, b"ok"),
     }
 }
 
 // Puts how many messages are held.
-pub fn holds(answer: Report, out: &mut [u8]) -> usize {
+pub fn holds(answer: HeldAnswer, out: &mut [u8]) -> usize {
     match answer {
-        Report::Refused(r) => words::refusal(out, r),
-        Report::Holds(count) => {
+        HeldAnswer::Refused(r) => words::refusal(out, r),
+        HeldAnswer::Holds(count) => {
             let ok = words::put(out, 0, b"ok");
             words::decimal(out, ok, count as u64)
         }

@@ -152,7 +152,7 @@ fn gone(l: Line, name: &[u8], s: &[u8], at: usize) -> Spoilt {
 fn put(i: u8, way: Way, channel: u8, place: u32, store: &mut [u8], message: &[u8])
     requires { ⌜ place < 32 ⌝ }
 {
-    let at = Region::of(i & 3, way, channel).room(place);
+    let at = Region::of(i & 3, way, channel).slot(place);
     if message.len() < 132 {
         words::put(store, at, message);
         return;

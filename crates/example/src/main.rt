@@ -1,6 +1,6 @@
 // The README's example: a line is opened and brought into modem relay, a message is taken, and the packet that carries it goes out.
 use ground::Refusal;
-use ground::Written;
+use ground::WriteAnswer;
 use line::Settings;
 use mode::Modes;
 
@@ -32,8 +32,8 @@ fn main() {
     let sent = gateway::send(took.book, &store, 0, 1, 0, &mut out);
     let answer = sent.answer;
     match answer {
-        Written::Refused(r) => report(r),
-        Written::Wrote(n) => {
+        WriteAnswer::Refused(r) => report(r),
+        WriteAnswer::Wrote(n) => {
             if n <= out.len() {
                 transmit(&out[0..n]);
             }

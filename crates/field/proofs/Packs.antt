@@ -12,7 +12,7 @@ use lib.Seq.{getD-append-add}
 use lib.Arith.{digits-lt}
 use lib.Pow.{pow-pos, pow-add, split, high, low, field, shr-shr, mod-mod-pow}
 use Rattle.field.specs.Bits.{bitAt, bitsAt}
-use Rattle.field.specs.Layout.{Field, of, octets, wordOctets, widths, join, packed, Room, Reads}
+use Rattle.field.specs.Layout.{Field, of, octets, wordOctets, widths, join, packed, InWidth, Reads}
 use Rattle.field.proofs.Laws.{last-digit}
 
 pub length-octets : (n x : ℕ) → length (octets n x) ≡ n
@@ -62,7 +62,7 @@ join-behind a (f ∷ fs) =
     let e′ : 0 * p + f .value ≡ f .value = omega arith in
     rw (join-behind (a * p + f .value) fs, e′, join-behind (f .value) fs, pow-add 2 (f .width) (widths fs), e) (omega arith)
 
-pub join-lt : (fs : List Field) → Room fs → join 0 fs < 2 ^ widths fs
+pub join-lt : (fs : List Field) → InWidth fs → join 0 fs < 2 ^ widths fs
 join-lt [] r = lit< tt
 join-lt (f ∷ fs) r =
     let e : 0 * 2 ^ f .width + f .value ≡ f .value = omega arith in
@@ -78,7 +78,7 @@ widths-append (f ∷ fs) gs = ap (λ (n : ℕ). f .width + n) (widths-append fs 
 
 module _ (n : ℕ) (rest : List ℕ) where
   -- a field behind the fields `front` and before the fields `back` is read back at its place
-  one-back : (front : List Field) (f : Field) (back : List Field) → f .value < 2 ^ f .width → Room back
+  one-back : (front : List Field) (f : Field) (back : List Field) → f .value < 2 ^ f .width → InWidth back
       → widths front + f .width + widths back ≡ 8 * n → bitsAt (octets n (join 0 (front ++ f ∷ back)) ++ rest) (widths front) (f .width) ≡ f .value
   one-back front f back h r e =
       let w : ℕ = f .width in
@@ -89,7 +89,7 @@ module _ (n : ℕ) (rest : List ℕ) where
       bits-octets n (join 0 (front ++ f ∷ back)) (widths front) w rest h′
       ∙ rw (e₁, e₂, high x (widths back) (join-lt back r), low (join 0 front) w h)
 
-  from-back : (front fs : List Field) → Room fs → widths front + widths fs ≡ 8 * n → Reads (octets n (join 0 (front ++ fs)) ++ rest) (widths front) fs
+  from-back : (front fs : List Field) → InWidth fs → widths front + widths fs ≡ 8 * n → Reads (octets n (join 0 (front ++ fs)) ++ rest) (widths front) fs
   from-back front [] r e = tt
   from-back front (f ∷ fs) r e =
       let v : widths (front ++ f ∷ []) ≡ widths front + f .width = widths-append front (f ∷ []) ∙ ap (λ (k : ℕ). widths front + k) (add-zero (f .width)) in
@@ -101,11 +101,11 @@ module _ (n : ℕ) (rest : List ℕ) where
       )
 
   -- fields that are packed are read back, each at its place, whatever stands behind
-  pub reads-back : (fs : List Field) → Room fs → widths fs ≡ 8 * n → Reads (octets n (join 0 fs) ++ rest) 0 fs
+  pub reads-back : (fs : List Field) → InWidth fs → widths fs ≡ 8 * n → Reads (octets n (join 0 fs) ++ rest) 0 fs
   reads-back fs r e = from-back [] fs r (zero-add (widths fs) ∙ e)
 
 -- what is packed with nothing behind it
-pub reads-whole : (n : ℕ) (fs : List Field) → Room fs → widths fs ≡ 8 * n → Reads (octets n (join 0 fs)) 0 fs
+pub reads-whole : (n : ℕ) (fs : List Field) → InWidth fs → widths fs ≡ 8 * n → Reads (octets n (join 0 fs)) 0 fs
 reads-whole n fs r e = subst (λ (l : List ℕ). Reads l 0 fs) (append-nil (octets n (join 0 fs))) (reads-back n [] fs r e)
 
 -- fields behind fields
@@ -138,7 +138,7 @@ octets-add (suc m) n x =
     ap (λ (k : ℕ). octets k x) (suc-add m n) ∙ (λ i. h i % 2 ^ 8 ∷ octets-add m n x i)
 
 -- fields are cut where an octet ends
-pub pack-cut : (m n : ℕ) (fs gs : List Field) → widths gs ≡ 8 * n → Room gs → octets (m + n) (join 0 (fs ++ gs)) ≡ octets m (join 0 fs) ++ octets n (join 0 gs)
+pub pack-cut : (m n : ℕ) (fs gs : List Field) → widths gs ≡ 8 * n → InWidth gs → octets (m + n) (join 0 (fs ++ gs)) ≡ octets m (join 0 fs) ++ octets n (join 0 gs)
 pack-cut m n fs gs e r =
     let x : join 0 (fs ++ gs) ≡ join 0 fs * 2 ^ (8 * n) + join 0 gs = join-append 0 fs gs ∙ join-behind (join 0 fs) gs ∙ ap (λ (w : ℕ). join 0 fs * 2 ^ w + join 0 gs) e in
     let l : join 0 gs < 2 ^ (8 * n) = subst (λ (w : ℕ). join 0 gs < 2 ^ w) e (join-lt gs r) in
@@ -176,7 +176,7 @@ join-cut a v w x fs =
 -- each group has 16 bits, and each of its numbers has room
 abbrev pub Words : List (List Field) → Type 0
 Words [] = Unit
-Words (g ∷ gs) = (widths g ≡ 16) × Room g × Words gs
+Words (g ∷ gs) = (widths g ≡ 16) × InWidth g × Words gs
 
 abbrev pub all : List (List Field) → List Field
 all [] = []
@@ -186,11 +186,11 @@ abbrev pub joined : List (List Field) → List ℕ
 joined [] = []
 joined (g ∷ gs) = join 0 g ∷ joined gs
 
-pub room-append : (fs gs : List Field) → Room fs → Room gs → Room (fs ++ gs)
+pub room-append : (fs gs : List Field) → InWidth fs → InWidth gs → InWidth (fs ++ gs)
 room-append [] gs r q = q
 room-append (f ∷ fs) gs r q = (r .0, room-append fs gs (r .1) q)
 
-words-room : (gs : List (List Field)) → Words gs → Room (all gs)
+words-room : (gs : List (List Field)) → Words gs → InWidth (all gs)
 words-room [] w = tt
 words-room (g ∷ gs) w = room-append g (all gs) (w .1) (words-room gs (w .2))
 

@@ -13,7 +13,7 @@ use Rattle.ground.specs.Refusal.{Test, verdict}
 use Rattle.ground.specs.Answer.{Writes}
 use Rattle.ground.specs.declared.Verdict.{Verdict}
 use Rattle.ground.specs.declared.Verdict.the-variants.{Pass}
-use Rattle.ground.specs.declared.Written.the-variants.{Wrote}
+use Rattle.ground.specs.declared.WriteAnswer.the-variants.{Wrote}
 use Rattle.ground.proofs.Verdicts.{writes}
 use Rattle.field.specs.Layout.{octets, wordOctets}
 use Rattle.field.proofs.Packs.{octets-add, octets-low}

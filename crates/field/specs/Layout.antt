@@ -37,9 +37,9 @@ abbrev pub packed : List Field → List ℕ
 packed fs = octets (widths fs / 8) (join 0 fs)
 
 -- each number has room in its width
-abbrev pub Room : List Field → Type 0
-Room [] = Unit
-Room (f ∷ fs) = (f .value < 2 ^ f .width) × Room fs
+abbrev pub InWidth : List Field → Type 0
+InWidth [] = Unit
+InWidth (f ∷ fs) = (f .value < 2 ^ f .width) × InWidth fs
 
 -- the fields, one after the other from bit b on, are what the octets hold there
 abbrev pub Reads : List ℕ → ℕ → List Field → Type 0

@@ -10,7 +10,7 @@ use native.Mathlib.Omega.{arith}
 use lib.ListN.{getD, drop, length-append, List·getD-append, take-append-drop, drop-of-length-le}
 use lib.Seq.{getD-at, take-suc, take-append-le, drop-cons}
 use Rattle.ground.proofs.Every.{apart, below-suc}
-use Rattle.flow.specs.Flow.{Message, Full, first, Sends, Receives, Have, Took, Heard, Acked, Arrived, Handed, Flow, Data, Grows, span, waiting}
+use Rattle.flow.specs.Flow.{Message, Full, firstStays, Sends, Receives, Have, TakeMove, BaseMove, AckMove, PayloadMove, HandOutMove, Flow, Data, Grows, span, waiting}
 
 -- by cases: there is no message, or there is one
 pub none-or : {A : Type 0} (x : Message) → (x ≡ [] → A) → (Full x → A) → A
@@ -21,12 +21,12 @@ not-none : {A : Type 0} {x : Message} → Full x → x ≡ [] → A
 not-none v e = absurd (subst Full e v)
 
 -- of two messages for one number the first stays, and there is one where either is
-first-new : (y x : Message) → Full x → Full (first y x)
-first-new [] x v = v
-first-new (a ∷ y) x v = tt
+firstStays-new : (y x : Message) → Full x → Full (firstStays y x)
+firstStays-new [] x v = v
+firstStays-new (a ∷ y) x v = tt
 
-pub first-old : (y x : Message) → Full y → first y x ≡ y
-first-old (a ∷ y) x v = refl
+pub firstStays-old : (y x : Message) → Full y → firstStays y x ≡ y
+firstStays-old (a ∷ y) x v = refl
 
 -- a payload stays the message of its number when more are taken
 pub data-more : (taken : List Message) (y : Message) (n : ℕ) (x : Message) → Data taken n x → Data (taken ++ (y ∷ [])) n x
@@ -37,21 +37,21 @@ data-more taken y n x d =
     }
 
 -- what has come stays, whatever arrives or is handed out
-pub arrived-grows : (r t : Receives) (n : ℕ) (x : Message) → Arrived r t n x → Grows r t
+pub arrived-grows : (r t : Receives) (n : ℕ) (x : Message) → PayloadMove r t n x → Grows r t
 arrived-grows r t n x m = record { next = omega arith; have = apart (λ k. Have r k → Have t k) n here there }
   where
     here : Have r n → Have t n
-    here v l = let a : r .R ≤ n = omega arith in subst Full (sym (first-old (r .stored n) x (v a)) ∙ sym (m .here a)) (v a)
+    here v l = let a : r .R ≤ n = omega arith in subst Full (sym (firstStays-old (r .stored n) x (v a)) ∙ sym (m .here a)) (v a)
 
     there : (k : ℕ) → k ≢ n → Have r k → Have t k
     there k d v l = let a : r .R ≤ k = omega arith in subst Full (sym (m .old k a d)) (v a)
 
-pub handed-grows : (r t : Receives) → Handed r t → Grows r t
+pub handed-grows : (r t : Receives) → HandOutMove r t → Grows r t
 handed-grows r t m = record { next = omega arith; have = λ n v l. rw (m .old n (omega arith)) (v (omega arith)) }
 
 -- and what arrives has come
-pub arrived-have : (r t : Receives) (n : ℕ) (x : Message) → Arrived r t n x → Full x → Have t n
-arrived-have r t n x m v l = rw (m .here (omega arith)) (first-new (r .stored n) x v)
+pub arrived-have : (r t : Receives) (n : ℕ) (x : Message) → PayloadMove r t n x → Full x → Have t n
+arrived-have r t n x m v l = rw (m .here (omega arith)) (firstStays-new (r .stored n) x v)
 
 module _ {w : ℕ} {s : Sends} {r : Receives} {taken handed : List Message} (f : Flow w s r taken handed) where
   -- what has come was taken
@@ -67,7 +67,7 @@ module _ {w : ℕ} {s : Sends} {r : Receives} {taken handed : List Message} (f :
   data-full {n} d = rw (d .same) (f .solid n (omega arith))
 
   -- Every move keeps the flow: a message is taken ..
-  pub take-flow : (t : Sends) (x : Message) → s .S < s .h + w → Full x → Took s t x → Flow w t r (taken ++ (x ∷ [])) handed
+  pub take-flow : (t : Sends) (x : Message) → s .S < s .h + w → Full x → TakeMove s t x → Flow w t r (taken ++ (x ∷ [])) handed
   take-flow t x g v m =
       record {
         count = omega (arith, length-append taken (x ∷ []));
@@ -75,7 +75,7 @@ module _ {w : ℕ} {s : Sends} {r : Receives} {taken handed : List Message} (f :
         mid = omega arith;
         high = omega arith;
         solid = λ n l. below-suc (λ k. Full (getD (taken ++ (x ∷ [])) k [])) (s .S) (λ k q. rw (at k q) (f .solid k q)) (rw new v) n (omega arith);
-        sends = λ n a l. below-suc Sent (s .S) sent (λ b u. m .new ∙ sym new) n (omega arith) (omega arith);
+        sends = λ n a l. below-suc Same (s .S) sent (λ b u. m .new ∙ sym new) n (omega arith) (omega arith);
         keeps = λ n a u. let k = f .keeps n a u in (omega (arith, k .0), k .1 ∙ sym (at n (k .0)));
         safe = λ n a l. below-suc Safe (s .S) safe (λ b e. not-none v (sym (m .new) ∙ e)) n (omega arith) a;
         out = f .out ∙ sym (take-append-le (r .R) taken (x ∷ []) (omega arith));
@@ -87,10 +87,10 @@ module _ {w : ℕ} {s : Sends} {r : Receives} {taken handed : List Message} (f :
       new : getD (taken ++ (x ∷ [])) (s .S) [] ≡ x
       new = getD-at taken x [] [] (s .S) (f .count)
 
-      Sent : ℕ → Type 0
-      Sent k = s .h ≤ k → Full (t .held k) → t .held k ≡ getD (taken ++ (x ∷ [])) k []
+      Same : ℕ → Type 0
+      Same k = s .h ≤ k → Full (t .held k) → t .held k ≡ getD (taken ++ (x ∷ [])) k []
 
-      sent : (k : ℕ) → k < s .S → Sent k
+      sent : (k : ℕ) → k < s .S → Same k
       sent k q b u = let o = m .old k b q in o ∙ f .sends k b q (rw o at u) ∙ sym (at k q)
 
       Safe : ℕ → Type 0
@@ -100,7 +100,7 @@ module _ {w : ℕ} {s : Sends} {r : Receives} {taken handed : List Message} (f :
       safe k q b e = f .safe k b q (sym (m .old k (omega arith) q) ∙ e)
 
   -- .. a base is heard that the other end has reached ..
-  pub base-flow : (t : Sends) (b : ℕ) → b ≤ r .R → Heard s t b → Flow w t r taken handed
+  pub base-flow : (t : Sends) (b : ℕ) → b ≤ r .R → BaseMove s t b → Flow w t r taken handed
   base-flow t b g m =
       record {
         count = omega arith;
@@ -115,7 +115,7 @@ module _ {w : ℕ} {s : Sends} {r : Receives} {taken handed : List Message} (f :
       }
 
   -- .. an acknowledgement is heard of a message that has come ..
-  pub ack-flow : (t : Sends) (k : ℕ) → Have r k → Acked s t k → Flow w t r taken handed
+  pub ack-flow : (t : Sends) (k : ℕ) → Have r k → AckMove s t k → Flow w t r taken handed
   ack-flow t k g m =
       record {
         count = omega arith;
@@ -123,16 +123,16 @@ module _ {w : ℕ} {s : Sends} {r : Receives} {taken handed : List Message} (f :
         mid = omega arith;
         high = omega arith;
         solid = λ n l. f .solid n (omega arith);
-        sends = apart Sent k (λ a l u. not-none u (m .gone (omega arith) (omega arith))) sent;
+        sends = apart Same k (λ a l u. not-none u (m .gone (omega arith) (omega arith))) sent;
         keeps = λ n a u. let k = f .keeps n a u in (omega (arith, k .0), k .1);
         safe = apart Safe k (λ a l e. g a) safe;
         out = f .out;
       }
     where
-      Sent : ℕ → Type 0
-      Sent n = t .h ≤ n → n < t .S → Full (t .held n) → t .held n ≡ getD taken n []
+      Same : ℕ → Type 0
+      Same n = t .h ≤ n → n < t .S → Full (t .held n) → t .held n ≡ getD taken n []
 
-      sent : (n : ℕ) → n ≢ k → Sent n
+      sent : (n : ℕ) → n ≢ k → Same n
       sent n d a l u = let o = m .old n (omega arith) (omega arith) d in o ∙ f .sends n (omega arith) (omega arith) (rw o at u)
 
       Safe : ℕ → Type 0
@@ -142,7 +142,7 @@ module _ {w : ℕ} {s : Sends} {r : Receives} {taken handed : List Message} (f :
       safe n d a l e = f .safe n a (omega arith) (sym (m .old n (omega arith) (omega arith) d) ∙ e)
 
   -- .. a message arrives that was taken ..
-  pub arrive-flow : (t : Receives) (n : ℕ) (x : Message) → Data taken n x → Arrived r t n x → Flow w s t taken handed
+  pub arrive-flow : (t : Receives) (n : ℕ) (x : Message) → Data taken n x → PayloadMove r t n x → Flow w s t taken handed
   arrive-flow t n x g m =
       record {
         count = f .count;
@@ -152,12 +152,12 @@ module _ {w : ℕ} {s : Sends} {r : Receives} {taken handed : List Message} (f :
         solid = f .solid;
         sends = f .sends;
         keeps = apart Kept n (λ a u. (omega arith, m .here (omega arith) ∙ same (omega arith))) kept;
-        safe = apart Safe n (λ a l e. rw (m .here (omega arith)) (first-new (r .stored n) x (data-full g))) safe;
+        safe = apart Safe n (λ a l e. rw (m .here (omega arith)) (firstStays-new (r .stored n) x (data-full g))) safe;
         out = rw (m .next) (f .out);
       }
     where
-      same : r .R ≤ n → first (r .stored n) x ≡ getD taken n []
-      same a = none-or (r .stored n) (λ e. rw e (g .same)) (λ v. first-old (r .stored n) x v ∙ f .keeps n a v .1)
+      same : r .R ≤ n → firstStays (r .stored n) x ≡ getD taken n []
+      same a = none-or (r .stored n) (λ e. rw e (g .same)) (λ v. firstStays-old (r .stored n) x v ∙ f .keeps n a v .1)
 
       Kept : ℕ → Type 0
       Kept k = t .R ≤ k → Full (t .stored k) → (k < s .S) × (t .stored k ≡ getD taken k [])
@@ -172,7 +172,7 @@ module _ {w : ℕ} {s : Sends} {r : Receives} {taken handed : List Message} (f :
       safe k d a l e = rw (m .old k (omega arith) d) (f .safe k (omega arith) l e)
 
   -- .. or message R is handed out.
-  pub hand-flow : (t : Receives) → Full (r .stored (r .R)) → Handed r t → Flow w s t taken (handed ++ (r .stored (r .R) ∷ []))
+  pub hand-flow : (t : Receives) → Full (r .stored (r .R)) → HandOutMove r t → Flow w s t taken (handed ++ (r .stored (r .R) ∷ []))
   hand-flow t v m =
       record {
         count = f .count;
@@ -190,8 +190,8 @@ module _ {w : ℕ} {s : Sends} {r : Receives} {taken handed : List Message} (f :
       next = f .keeps (r .R) (omega arith) v
 
   -- A message that waits is read from the end that has it.
-  waits : (n : ℕ) → r .R ≤ n → n < s .S → first (r .stored n) (s .held n) ≡ getD taken n []
-  waits n a l = none-or (r .stored n) (λ e. rw e (sent e)) (λ v. first-old (r .stored n) (s .held n) v ∙ f .keeps n a v .1)
+  waits : (n : ℕ) → r .R ≤ n → n < s .S → firstStays (r .stored n) (s .held n) ≡ getD taken n []
+  waits n a l = none-or (r .stored n) (λ e. rw e (sent e)) (λ v. firstStays-old (r .stored n) (s .held n) v ∙ f .keeps n a v .1)
     where
       sent : r .stored n ≡ [] → s .held n ≡ getD taken n []
       sent e = none-or (s .held n) (λ u. not-none (f .safe n a l u) e) (f .sends n (omega arith) l)

@@ -43,11 +43,11 @@ module _ (w z : ℕ) where
           narrow = narrow;
         }
 
-    pub sending-sized : sendingFits w z s ≡ true → Sized w z (s .sizes) (maskOf (s .unacked)) (s .first)
+    pub sending-sized : sendingFits w z s ≡ true → Sized w z (s .sizes) (maskOf (s .unacked)) (s .origin)
     unfolding sendingFits
-    sending-sized t = sizes-each w z (s .sizes) (maskOf (s .unacked)) (s .first) (each (sendingTests w z s) t .1 .1 .1 .1 .1 .0)
+    sending-sized t = sizes-each w z (s .sizes) (maskOf (s .unacked)) (s .origin) (each (sendingTests w z s) t .1 .1 .1 .1 .1 .0)
 
-    pub sending-fits : SendingOk w s → Sized w z (s .sizes) (maskOf (s .unacked)) (s .first) → sendingFits w z s ≡ true
+    pub sending-fits : SendingOk w s → Sized w z (s .sizes) (maskOf (s .unacked)) (s .origin) → sendingFits w z s ≡ true
     unfolding sendingFits
     sending-fits k f =
         together (sendingTests w z s) (
@@ -56,7 +56,7 @@ module _ (w z : ℕ) where
             le-leb _ _ (k .ordered),
             (
               le-leb _ _ (k .windowed),
-              (lt-ltb _ _ (k .placed), (lt-within _ _ (k .masked), (sizes-all w z (s .sizes) (maskOf (s .unacked)) (s .first) f, tt))),
+              (lt-ltb _ _ (k .placed), (lt-within _ _ (k .masked), (sizes-all w z (s .sizes) (maskOf (s .unacked)) (s .origin) f, tt))),
             ),
           ),
         )
@@ -69,18 +69,18 @@ module _ (w z : ℕ) where
         let e = each (receivingTests w z r) t in
         record { capped = leb-true _ _ (e .0); placed = ltb-true _ _ (e .1 .0); masked = within-lt _ _ (e .1 .1 .0); narrow = narrow }
 
-    pub receiving-sized : receivingFits w z r ≡ true → Sized w z (r .sizes) (maskOf (r .stored)) (r .first)
+    pub receiving-sized : receivingFits w z r ≡ true → Sized w z (r .sizes) (maskOf (r .stored)) (r .origin)
     unfolding receivingFits
-    receiving-sized t = sizes-each w z (r .sizes) (maskOf (r .stored)) (r .first) (each (receivingTests w z r) t .1 .1 .1 .0)
+    receiving-sized t = sizes-each w z (r .sizes) (maskOf (r .stored)) (r .origin) (each (receivingTests w z r) t .1 .1 .1 .0)
 
-    pub receiving-fits : ReceivingOk w r → Sized w z (r .sizes) (maskOf (r .stored)) (r .first) → receivingFits w z r ≡ true
+    pub receiving-fits : ReceivingOk w r → Sized w z (r .sizes) (maskOf (r .stored)) (r .origin) → receivingFits w z r ≡ true
     unfolding receivingFits
     receiving-fits k f =
         together (receivingTests w z r) (
           le-leb _ _ (k .capped),
           (
             lt-ltb _ _ (k .placed),
-            (lt-within _ _ (k .masked), (sizes-all w z (r .sizes) (maskOf (r .stored)) (r .first) f, tt)),
+            (lt-within _ _ (k .masked), (sizes-all w z (r .sizes) (maskOf (r .stored)) (r .origin) f, tt)),
           ),
         )
 
@@ -107,7 +107,7 @@ module _ {w : ℕ} (s : Sending) (k : SendingOk w s) where
         capped = k .capped;
         ordered = omega arith;
         windowed = omega arith;
-        placed = place-lt w (s .first) d (k .placed) (omega arith);
+        placed = place-lt w (s .origin) d (k .placed) (omega arith);
         masked = shr-lt (s .taken - (s .base + d)) d (rw e at (k .masked));
         narrow = k .narrow;
       }
@@ -134,7 +134,7 @@ module _ {w : ℕ} (r : Receiving) (k : ReceivingOk w r) where
   handed-ok c =
       record {
         capped = omega arith;
-        placed = place-lt w (r .first) 1 (k .placed) (omega arith);
+        placed = place-lt w (r .origin) 1 (k .placed) (omega arith);
         masked = lt-of-le-of-lt (shr-le (maskOf (r .stored)) 1) (k .masked);
         narrow = k .narrow;
       }
@@ -142,14 +142,14 @@ module _ {w : ℕ} (r : Receiving) (k : ReceivingOk w r) where
 -- Every step keeps what BOOK asks.
 module _ (w z : ℕ) (narrow : w ≤ widest) where
   -- where nothing is there, no size is asked after
-  none-sized : (sizes : List ℕ) (first : ℕ) → Sized w z sizes 0 first
-  none-sized sizes first i l b = clash (sym (bit-past 0 0 i (pow-pos 0) (omega arith)) ∙ b)
+  none-sized : (sizes : List ℕ) (origin : ℕ) → Sized w z sizes 0 origin
+  none-sized sizes origin i l b = clash (sym (bit-past 0 0 i (pow-pos 0) (omega arith)) ∙ b)
 
   module _ (s : Sending) (t : sendingFits w z s ≡ true) where
     ok : SendingOk w s
     ok = sending-ok w z s narrow t
 
-    sized : Sized w z (s .sizes) (maskOf (s .unacked)) (s .first)
+    sized : Sized w z (s .sizes) (maskOf (s .unacked)) (s .origin)
     sized = sending-sized w z s t
 
     pub took-keeps : (size : ℕ) → w ≤ length (s .sizes) → verdict (takeTests w s) ≡ Pass → sizeFits z size ≡ true → sendingFits w z
@@ -159,7 +159,7 @@ module _ (w z : ℕ) (narrow : w ≤ widest) where
         let p = passed (takeTests w s) v in
         let q : underWay s < w = ltb-true _ _ (p .1 .0) in
         sending-fits w z (tookOne w s size) (took-ok s ok size (ltb-true _ _ (p .0)) q)
-        (sized-with w z (s .sizes) (maskOf (s .unacked)) (s .first) sized (ok .placed) (underWay s) size q long f)
+        (sized-with w z (s .sizes) (maskOf (s .unacked)) (s .origin) sized (ok .placed) (underWay s) size q long f)
 
     pub heard-keeps : (b : ℕ) → sendingFits w z (heardBase w s b) ≡ true
     unfolding heardBase
@@ -168,7 +168,7 @@ module _ (w z : ℕ) (narrow : w ≤ widest) where
         pick-by (λ u. sendingFits w z u ≡ true) (ltb 0 d && leb d (underWay s))
         (λ e. let q : d ≤ underWay s = leb-true _ _ (both-true (ltb 0 d) _ e .1) in
         sending-fits w z (movedBy w s d) (moved-ok s ok d q)
-        (sized-dropped w z (s .sizes) (maskOf (s .unacked)) (s .first) sized (ok .placed) d (lt-of-lt-of-le (ok .masked) (pow-mono (ok .windowed)))))
+        (sized-dropped w z (s .sizes) (maskOf (s .unacked)) (s .origin) sized (ok .placed) d (lt-of-lt-of-le (ok .masked) (pow-mono (ok .windowed)))))
         (λ e. t)
 
     pub acked-keeps : (n : ℕ) → sendingFits w z (ackedBy s n) ≡ true
@@ -176,7 +176,7 @@ module _ (w z : ℕ) (narrow : w ≤ widest) where
     acked-keeps n =
         let d = dist n (s .base) in
         pick-by (λ u. sendingFits w z u ≡ true) (ltb d (underWay s))
-        (λ e. sending-fits w z (droppedAt s d) (dropped-ok s ok d) (sized-without w z (s .sizes) (maskOf (s .unacked)) (s .first) sized (ok .placed) d))
+        (λ e. sending-fits w z (droppedAt s d) (dropped-ok s ok d) (sized-without w z (s .sizes) (maskOf (s .unacked)) (s .origin) sized (ok .placed) d))
         (λ e. t)
 
     pub emptied-keeps : sendingFits w z (emptiedSending s) ≡ true
@@ -184,7 +184,7 @@ module _ (w z : ℕ) (narrow : w ≤ widest) where
     emptied-keeps =
         sending-fits w z (emptiedSending s)
         (record { capped = ok .capped; ordered = ok .ordered; windowed = ok .windowed; placed = ok .placed; masked = pow-pos (s .taken - s .base); narrow = narrow })
-        (none-sized (s .sizes) (s .first))
+        (none-sized (s .sizes) (s .origin))
 
   module _ (r : Receiving) (t : receivingFits w z r ≡ true) where
     okay : ReceivingOk w r
@@ -198,18 +198,18 @@ module _ (w z : ℕ) (narrow : w ≤ widest) where
         pick-lt (λ (a : Arrival). receivingFits w z (arrivedAs w r a size) ≡ true) d w
         (λ q. pick-by (λ (a : Arrival). receivingFits w z (arrivedAs w r a size) ≡ true) (bitOf (maskOf (r .stored)) d) (λ e. t)
         (λ e. receiving-fits w z (storedAt w r d size) (stored-ok r okay d size q)
-        (sized-with w z (r .sizes) (maskOf (r .stored)) (r .first) (receiving-sized w z r t) (okay .placed) d size q long f)))
+        (sized-with w z (r .sizes) (maskOf (r .stored)) (r .origin) (receiving-sized w z r t) (okay .placed) d size q long f)))
         (λ q. t)
 
     pub handed-keeps : verdict (handTests r) ≡ Pass → receivingFits w z (handedOut w r) ≡ true
     unfolding handedOut
     handed-keeps v =
         receiving-fits w z (handedOut w r) (handed-ok r okay (ltb-true _ _ (passed (handTests r) v .0)))
-        (sized-dropped w z (r .sizes) (maskOf (r .stored)) (r .first) (receiving-sized w z r t) (okay .placed) 1 (okay .masked))
+        (sized-dropped w z (r .sizes) (maskOf (r .stored)) (r .origin) (receiving-sized w z r t) (okay .placed) 1 (okay .masked))
 
     pub cleared-keeps : receivingFits w z (emptiedReceiving r) ≡ true
     unfolding emptiedReceiving
-    cleared-keeps = receiving-fits w z (emptiedReceiving r) (record { capped = okay .capped; placed = okay .placed; masked = pow-pos w; narrow = narrow }) (none-sized (r .sizes) (r .first))
+    cleared-keeps = receiving-fits w z (emptiedReceiving r) (record { capped = okay .capped; placed = okay .placed; masked = pow-pos w; narrow = narrow }) (none-sized (r .sizes) (r .origin))
 
   -- and a fresh side meets it
   pub fresh-sending : 0 < w → sendingFits w z freshSending ≡ true

@@ -1,4 +1,4 @@
--- One way of a channel over the real sides: a sending side with its rooms, the peer's receiving side with its own, what was taken and what
+-- One way of a channel over the real sides: a sending side with its slots, the peer's receiving side with its own, what was taken and what
 -- was handed out. Each step, made with the 14 bits that a packet carries, keeps the flow between the two.
 -- Assumes nothing.
 use Prim.Native.Nat.{ℕ, _+_, _-_, _%_, _≤_, _<_}
@@ -15,7 +15,7 @@ use Rattle.flow.specs.Flow.{Message, Full, Have, Flow, Data, waiting}
 use Rattle.places.specs.Places.{maskOf, bitOf, rankOf}
 use Rattle.receiving.specs.Receiving.{ReceivingOk, arrivalOf, arrivedAs, nextSize, handedOut}
 use Rattle.sending.specs.Sending.{SendingOk, underWay, nextPlace, tookOne, heardBase, ackedBy}
-use Rattle.flow.specs.View.{Rooms, messageAt, messageOf, sends, receives, PutAt, PutAs, Roomy}
+use Rattle.flow.specs.View.{Slots, messageAt, messageOf, sends, receives, PutAt, PutAs, SlotsHold}
 use Rattle.places.specs.declared.Place.the-variants.{At}
 use Rattle.receiving.specs.declared.Receiving.{Receiving}
 use Rattle.sending.specs.declared.Sending.{Sending}
@@ -27,27 +27,27 @@ use Rattle.places.proofs.Ranks.{rank-holds, rank-below}
 use Rattle.flow.proofs.Sized.{Sized}
 
 -- message R, as it is handed out, is the one that the view shows
-pub next-message : (w : ℕ) (room : Rooms) (r : Receiving) → r .first < w → bitOf (maskOf (r .stored)) 0 ≡ true
-    → receives w room r .stored (r .next) ≡ take (nextSize r) (room (r .first))
-next-message w room r l t =
-    ap (messageOf w room (r .sizes) (maskOf (r .stored)) (r .first)) (sub-self (r .next))
-    ∙ message-in w room (r .sizes) (maskOf (r .stored)) (r .first) 0 t
-    ∙ ap (messageAt room (r .sizes)) (pick-lt (λ (p : ℕ). p ≡ r .first) (r .first + 0) w (λ q. add-zero (r .first)) (λ q. absurd (omega arith)))
+pub next-message : (w : ℕ) (slot : Slots) (r : Receiving) → r .origin < w → bitOf (maskOf (r .stored)) 0 ≡ true
+    → receives w slot r .stored (r .next) ≡ take (nextSize r) (slot (r .origin))
+next-message w slot r l t =
+    ap (messageOf w slot (r .sizes) (maskOf (r .stored)) (r .origin)) (sub-self (r .next))
+    ∙ message-in w slot (r .sizes) (maskOf (r .stored)) (r .origin) 0 t
+    ∙ ap (messageAt slot (r .sizes)) (pick-lt (λ (p : ℕ). p ≡ r .origin) (r .origin + 0) w (λ q. add-zero (r .origin)) (λ q. absurd (omega arith)))
 
 -- a held message, found by its rank, is one of h to S - 1, and the view shows its octets
-pub ranked-message : (w : ℕ) (room : Rooms) (s : Sending) (rank i : ℕ) → SendingOk w s → rankOf (maskOf (s .unacked)) rank ≡ At i
-    → (i < underWay s) × (sends w room s .held (s .base + i) ≡ messageAt room (s .sizes) (placeOf (s .first) i w))
-ranked-message w room s rank i k e =
+pub ranked-message : (w : ℕ) (slot : Slots) (s : Sending) (rank i : ℕ) → SendingOk w s → rankOf (maskOf (s .unacked)) rank ≡ At i
+    → (i < underWay s) × (sends w slot s .held (s .base + i) ≡ messageAt slot (s .sizes) (placeOf (s .origin) i w))
+ranked-message w slot s rank i k e =
     let back : s .base + i - s .base ≡ i = omega arith in (
       rank-below (maskOf (s .unacked)) rank i (underWay s) (k .masked) e,
-      ap (messageOf w room (s .sizes) (maskOf (s .unacked)) (s .first)) back ∙ message-in w room (s .sizes) (maskOf (s .unacked)) (s .first) i
+      ap (messageOf w slot (s .sizes) (maskOf (s .unacked)) (s .origin)) back ∙ message-in w slot (s .sizes) (maskOf (s .unacked)) (s .origin) i
           (rank-holds (maskOf (s .unacked)) rank i e .1),
     )
 
-module _ (w stale : ℕ) (wide : w + stale ≤ modulus) (s : Sending) (r : Receiving) (out into : Rooms) (taken handed : List Message)
+module _ (w stale : ℕ) (wide : w + stale ≤ modulus) (s : Sending) (r : Receiving) (out into : Slots) (taken handed : List Message)
     (k : SendingOk w s) (j : ReceivingOk w r) (f : Flow w (sends w out s) (receives w into r) taken handed) where
   -- a message is taken
-  pub took-flow : (after : Rooms) (x : Message) → w ≤ length (s .sizes) → underWay s < w → 0 < length x → PutAt w out after (nextPlace w s) x
+  pub took-flow : (after : Slots) (x : Message) → w ≤ length (s .sizes) → underWay s < w → 0 < length x → PutAt w out after (nextPlace w s) x
       → Flow w (sends w after (tookOne w s (length x))) (receives w into r) (taken ++ (x ∷ [])) handed
   took-flow after x long q l u = take-flow f (sends w after (tookOne w s (length x))) x (omega (arith, k)) (full-of x l)
       (took-moves w out s k after x long q u)
@@ -64,7 +64,7 @@ module _ (w stale : ℕ) (wide : w + stale ≤ modulus) (s : Sending) (r : Recei
       rw (acked-field s n) (ack-flow f (sends w out (ackedBy s n)) n have (acked-moves w out s k stale wide n l fresh))
 
   -- a message arrives that was taken and is not stale
-  pub arrived-flow : (z : ℕ) → Sized w z (r .sizes) (maskOf (r .stored)) (r .first) → Roomy w z into → (after : Rooms) (n : ℕ) (x : Message)
+  pub arrived-flow : (z : ℕ) → Sized w z (r .sizes) (maskOf (r .stored)) (r .origin) → SlotsHold w z into → (after : Slots) (n : ℕ) (x : Message)
       → Data taken n x → s .taken ≤ n + stale
       → w ≤ length (r .sizes) → PutAs w r (arrivalOf w r (n % modulus)) into after x
       → Flow w (sends w out s) (receives w after (arrivedAs w r (arrivalOf w r (n % modulus)) (length x))) taken handed
@@ -74,16 +74,16 @@ module _ (w stale : ℕ) (wide : w + stale ≤ modulus) (s : Sending) (r : Recei
       (omega (arith, d .known, f .count)) fresh long u))
 
   -- message R is handed out
-  pub handed-flow : (z : ℕ) → Sized w z (r .sizes) (maskOf (r .stored)) (r .first) → Roomy w z into → bitOf (maskOf (r .stored)) 0 ≡ true
-      → Flow w (sends w out s) (receives w into (handedOut w r)) taken (handed ++ (take (nextSize r) (into (r .first)) ∷ []))
+  pub handed-flow : (z : ℕ) → Sized w z (r .sizes) (maskOf (r .stored)) (r .origin) → SlotsHold w z into → bitOf (maskOf (r .stored)) 0 ≡ true
+      → Flow w (sends w out s) (receives w into (handedOut w r)) taken (handed ++ (take (nextSize r) (into (r .origin)) ∷ []))
   handed-flow z sized roomy t =
       let e = next-message w into r (j .placed) t in
       rw e at (hand-flow f (receives w into (handedOut w r)) (full e) (handed-moves w into r j))
     where
-      full : receives w into r .stored (r .next) ≡ take (nextSize r) (into (r .first)) → Full (receives w into r .stored (r .next))
+      full : receives w into r .stored (r .next) ≡ take (nextSize r) (into (r .origin)) → Full (receives w into r .stored (r .next))
       full e =
-          subst (λ (i : ℕ). Full (messageOf w into (r .sizes) (maskOf (r .stored)) (r .first) i)) (sym (sub-self (r .next)))
-          (message-full w into (r .sizes) (maskOf (r .stored)) (r .first) z (j .placed) sized roomy 0 (omega (arith, j .placed)) t)
+          subst (λ (i : ℕ). Full (messageOf w into (r .sizes) (maskOf (r .stored)) (r .origin) i)) (sym (sub-self (r .next)))
+          (message-full w into (r .sizes) (maskOf (r .stored)) (r .origin) z (j .placed) sized roomy 0 (omega (arith, j .placed)) t)
 
   -- the messages taken are those handed out, in order and octet for octet, followed by those that wait
   pub in-order : taken ≡ handed ++ waiting (sends w out s) (receives w into r)

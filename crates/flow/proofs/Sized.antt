@@ -28,42 +28,42 @@ bit-below m n i h t = go (decLt i n)
 module _ (w z : ℕ) where
   -- each message of the set has a size that fits
   abbrev pub Sized : List ℕ → ℕ → ℕ → Type 0
-  Sized sizes m first = (i : ℕ) → i < w → bitOf m i ≡ true → sizeFits z (sizeOf w sizes first i) ≡ true
+  Sized sizes m origin = (i : ℕ) → i < w → bitOf m i ≡ true → sizeFits z (sizeOf w sizes origin i) ≡ true
 
-  module _ (sizes : List ℕ) (m first : ℕ) where
+  module _ (sizes : List ℕ) (m origin : ℕ) where
     -- what the test says
-    pub sizes-each : sizesFit w z sizes m first ≡ true → Sized sizes m first
+    pub sizes-each : sizesFit w z sizes m origin ≡ true → Sized sizes m origin
     unfolding sizesFit
-    sizes-each t i l b = let e = every-at (sizeAt w z sizes m first) w t i l in rw b at e
+    sizes-each t i l b = let e = every-at (sizeAt w z sizes m origin) w t i l in rw b at e
 
-    pub sizes-all : Sized sizes m first → sizesFit w z sizes m first ≡ true
+    pub sizes-all : Sized sizes m origin → sizesFit w z sizes m origin ≡ true
     unfolding sizesFit
-    sizes-all f = every-all (sizeAt w z sizes m first) w (λ i l. go i l (bitOf m i) refl)
+    sizes-all f = every-all (sizeAt w z sizes m origin) w (λ i l. go i l (bitOf m i) refl)
       where
-        go : (i : ℕ) → i < w → (b : Bool) → bitOf m i ≡ b → pick b (sizeFits z (sizeOf w sizes first i)) true ≡ true
+        go : (i : ℕ) → i < w → (b : Bool) → bitOf m i ≡ b → pick b (sizeFits z (sizeOf w sizes origin i)) true ≡ true
         go i l true e = f i l e
         go i l false e = refl
 
-    module _ (f : Sized sizes m first) (l : first < w) where
+    module _ (f : Sized sizes m origin) (l : origin < w) where
       -- a message more
-      pub sized-with : (k size : ℕ) → k < w → w ≤ length sizes → sizeFits z size ≡ true → Sized (set sizes (placeOf first k w) size)
-          (withBit m k) first
+      pub sized-with : (k size : ℕ) → k < w → w ≤ length sizes → sizeFits z size ≡ true → Sized (set sizes (placeOf origin k w) size)
+          (withBit m k) origin
       sized-with k size q long s =
-          apart (λ i. i < w → bitOf (withBit m k) i ≡ true → sizeFits z (sizeOf w (set sizes (placeOf first k w) size) first i) ≡ true) k
-          (λ a b. ap (sizeFits z) (getD-set-same sizes (placeOf first k w) size 0 (omega (arith, place-lt w first k l (omega arith)))) ∙ s)
-          (λ i d a b. ap (sizeFits z) (getD-set-other sizes (placeOf first k w) (placeOf first i w) size 0 (λ e. d (place-once w first i k l a q e)))
+          apart (λ i. i < w → bitOf (withBit m k) i ≡ true → sizeFits z (sizeOf w (set sizes (placeOf origin k w) size) origin i) ≡ true) k
+          (λ a b. ap (sizeFits z) (getD-set-same sizes (placeOf origin k w) size 0 (omega (arith, place-lt w origin k l (omega arith)))) ∙ s)
+          (λ i d a b. ap (sizeFits z) (getD-set-other sizes (placeOf origin k w) (placeOf origin i w) size 0 (λ e. d (place-once w origin i k l a q e)))
           ∙ f i a (sym (with-other m k i d) ∙ b))
 
       -- a message less
-      pub sized-without : (k : ℕ) → Sized sizes (withoutBit m k) first
+      pub sized-without : (k : ℕ) → Sized sizes (withoutBit m k) origin
       sized-without k =
-          apart (λ i. i < w → bitOf (withoutBit m k) i ≡ true → sizeFits z (sizeOf w sizes first i) ≡ true) k
+          apart (λ i. i < w → bitOf (withoutBit m k) i ≡ true → sizeFits z (sizeOf w sizes origin i) ≡ true) k
           (λ a b. clash (sym (without-same m k) ∙ b))
           (λ i d a b. f i a (sym (without-other m k i d) ∙ b))
 
       -- the oldest d are no longer among them
-      pub sized-dropped : (d : ℕ) → m < 2 ^ w → Sized sizes (m / 2 ^ d) (placeOf first d w)
+      pub sized-dropped : (d : ℕ) → m < 2 ^ w → Sized sizes (m / 2 ^ d) (placeOf origin d w)
       sized-dropped d h i a b =
           let t = sym (bit-dropped m d i) ∙ b in
           let q = bit-below m w (d + i) h t in
-          ap (λ (p : ℕ). sizeFits z (getD sizes p 0)) (place-stays w first d i l (omega arith)) ∙ f (d + i) q t
+          ap (λ (p : ℕ). sizeFits z (getD sizes p 0)) (place-stays w origin d i l (omega arith)) ∙ f (d + i) q t

@@ -16,9 +16,9 @@ Full [] = ⊥
 Full (a ∷ x) = Unit {0}
 
 -- "in which case the first stays"
-abbrev pub first : Message → Message → Message
-first [] x = x
-first (a ∷ m) x = a ∷ m
+abbrev pub firstStays : Message → Message → Message
+firstStays [] x = x
+firstStays (a ∷ m) x = a ∷ m
 
 -- a sending end: S, h, and the octets of each message that is held
 pub record Sends : Type 0 where
@@ -38,33 +38,33 @@ Have r n = r .R ≤ n → Full (r .stored n)
 -- The moves, with full numbers.
 
 -- message x is taken
-pub record Took (s t : Sends) (x : Message) : Type 0 where
+pub record TakeMove (s t : Sends) (x : Message) : Type 0 where
   pub count : t .S ≡ suc (s .S)
   pub base : t .h ≡ s .h
   pub new : t .held (s .S) ≡ x
   pub old : (n : ℕ) → s .h ≤ n → n < s .S → t .held n ≡ s .held n
 
 -- base b is heard
-pub record Heard (s t : Sends) (b : ℕ) : Type 0 where
+pub record BaseMove (s t : Sends) (b : ℕ) : Type 0 where
   pub count : t .S ≡ s .S
   pub base : t .h ≡ max (s .h) b
   pub old : (n : ℕ) → t .h ≤ n → n < s .S → t .held n ≡ s .held n
 
 -- message k is acknowledged
-pub record Acked (s t : Sends) (k : ℕ) : Type 0 where
+pub record AckMove (s t : Sends) (k : ℕ) : Type 0 where
   pub count : t .S ≡ s .S
   pub base : t .h ≡ s .h
   pub gone : s .h ≤ k → k < s .S → t .held k ≡ []
   pub old : (n : ℕ) → s .h ≤ n → n < s .S → n ≢ k → t .held n ≡ s .held n
 
 -- message n arrives with octets x
-pub record Arrived (r t : Receives) (n : ℕ) (x : Message) : Type 0 where
+pub record PayloadMove (r t : Receives) (n : ℕ) (x : Message) : Type 0 where
   pub next : t .R ≡ r .R
-  pub here : r .R ≤ n → t .stored n ≡ first (r .stored n) x
+  pub here : r .R ≤ n → t .stored n ≡ firstStays (r .stored n) x
   pub old : (m : ℕ) → r .R ≤ m → m ≢ n → t .stored m ≡ r .stored m
 
 -- message R is handed out
-pub record Handed (r t : Receives) : Type 0 where
+pub record HandOutMove (r t : Receives) : Type 0 where
   pub next : t .R ≡ suc (r .R)
   pub old : (m : ℕ) → r .R < m → t .stored m ≡ r .stored m
 
@@ -94,7 +94,7 @@ pub record Grows (r t : Receives) : Type 0 where
 -- the k messages from number n on, each read from the end that has it
 abbrev pub span : Sends → Receives → ℕ → ℕ → List Message
 span s r n zero = []
-span s r n (suc k) = first (r .stored n) (s .held n) ∷ span s r (suc n) k
+span s r n (suc k) = firstStays (r .stored n) (s .held n) ∷ span s r (suc n) k
 
 -- the messages that wait, oldest first
 unfoldable pub waiting : Sends → Receives → List Message

@@ -22,7 +22,7 @@ use Rattle.line.specs.Fit.{largest, lineFits}
 use Rattle.line.specs.declared.Line.{Line}
 use Rattle.line.proofs.Keeps.{line-ok}
 use Rattle.calls.specs.Order.{closeTests}
-use Rattle.calls.specs.Did.{slipOf}
+use Rattle.calls.specs.Result.{slipOf}
 
 -- "handed out at most as many": a count has its 24 bits
 counted : (w : ℕ) (r : Receiving) → w ≤ widest → receivingFits w largest r ≡ true → ltb (r .next) 16777216 ≡ true
@@ -45,8 +45,8 @@ slip-fits l o f =
     (lt-ltb (l .identifier) 128 (omega arith), (s .1 .0, (lt-ltb (l .kind) 128 (omega arith), (counted 32 (l .receiving1) (lit≤ tt) (k .receiving1), (counted 8 (l .receiving2) (lit≤ tt) (k .receiving2), (flag (ended (l .modes)), tt))))))
 
 -- so closing writes it
-pub slip-passes : (l : Line) (room : ℕ) → lineFits l ≡ true → verdict (closeTests l room) ≡ Pass → verdict (writeTests (slipOf l) room) ≡ Pass
+pub slip-passes : (l : Line) (space : ℕ) → lineFits l ≡ true → verdict (closeTests l space) ≡ Pass → verdict (writeTests (slipOf l) space) ≡ Pass
 unfolding closeTests
-slip-passes l room f e =
-    let t = passed (closeTests l room) e in
-    passes (writeTests (slipOf l) room) (slip-fits l (t .0) f, (t .1 .0, tt))
+slip-passes l space f e =
+    let t = passed (closeTests l space) e in
+    passes (writeTests (slipOf l) space) (slip-fits l (t .0) f, (t .1 .0, tt))

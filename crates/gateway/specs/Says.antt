@@ -5,6 +5,6 @@ use Rattle.ground.specs.Answer.{Answer, accepted, refused}
 use Rattle.ground.specs.declared.Verdict.{Verdict}
 use Rattle.ground.specs.declared.Verdict.the-variants.{Pass, Refuse}
 
-abbrev pub openedSays : Verdict → Answer
-openedSays Pass = accepted []
-openedSays (Refuse r) = refused r
+abbrev pub openSays : Verdict → Answer
+openSays Pass = accepted []
+openSays (Refuse r) = refused r

@@ -11,14 +11,14 @@
 ghost use Prim.Native.Nat.{ℕ};
 ghost use mathlib.Core.Path.{_≡_};
 ghost use mathlib.Core.List.{List};
-ghost use Rattle.ground.specs.Answer.{writtenAnswer};
+ghost use Rattle.ground.specs.Answer.{writeSays};
 ghost use Rattle.book.specs.Book.{freshBook};
 ghost use Rattle.calls.specs.Call as call;
-ghost use Rattle.calls.specs.Did.{made, did, slipOf};
-ghost use Rattle.gateway.specs.Says.{openedSays};
+ghost use Rattle.calls.specs.Result.{resultWith, resultOf, slipOf};
+ghost use Rattle.gateway.specs.Says.{openSays};
 use book::Book;
 use ground::Verdict;
-use ground::Written;
+use ground::WriteAnswer;
 use line::Line;
 use line::Settings;
 use slip::Slip;
@@ -39,15 +39,15 @@ pub use incoming::arrive; // a packet arrives: answers its line. SHORT, FORM, NO
 pub use incoming::hand_out; // hands out message R of a channel: answers how many octets. NOLINE, MODE, CHANNEL, SPENT, NOTHING, ROOM
 
 // What they leave: the book, and the answer to the call.
-pub use signals::Hears; // hear's answer is a `mode::Heard`
-pub use signals::Asks; // ask's is a `mode::Asked`
-pub use signals::Ticks; // tick's is a `mode::Ticked`
-pub use outgoing::Took; // take's is a `Taken`
-pub use outgoing::Taken; // a message's number, or a refusal
-pub use outgoing::Report; // held leaves the book alone, and answers how many, or a refusal
-pub use incoming::Came; // arrive's is an `Arrived`
-pub use incoming::Arrived; // a packet's line, or a refusal
-pub use calls::Gave; // send, empty, hand_out and closing answer a `ground::Written`: how many octets are in the output, or a refusal
+pub use signals::Heard; // hear's answer is a `mode::HearAnswer`
+pub use signals::Asked; // ask's is a `mode::AskAnswer`
+pub use signals::Ticked; // tick's is a `mode::TickAnswer`
+pub use outgoing::Taken; // take's is a `TakeAnswer`
+pub use outgoing::TakeAnswer; // a message's number, or a refusal
+pub use outgoing::HeldAnswer; // held leaves the book alone, and answers how many, or a refusal
+pub use incoming::Arrived; // arrive's is an `ArriveAnswer`
+pub use incoming::ArriveAnswer; // a packet's line, or a refusal
+pub use calls::Written; // send, empty, hand_out and closing answer a `ground::WriteAnswer`: how many octets are in the output, or a refusal
 
 pub struct Opened {
     pub book: Book,
@@ -63,7 +63,7 @@ pub fn fresh() -> Book
 
 // Opens a line. TAKEN for the line, RANGE for a setting, TAKEN for the identifier.
 pub fn open(book: Book, line: u8, settings: Settings, time: u64) -> Opened
-    ensures { λ r. ⌜ ((store out : List ℕ) → made (openedSays (r .answer)) (r .book) store out ≡ did (call.opening line settings time) book store out) ⌝ }
+    ensures { λ r. ⌜ ((store out : List ℕ) → resultWith (openSays (r .answer)) (r .book) store out ≡ resultOf (call.opening line settings time) book store out) ⌝ }
 {
     let verdict = calls::may_open(book, line, settings);
     match verdict {
@@ -94,27 +94,27 @@ fn slip_of(l: Line) -> Slip
     Slip {
         identifier: l.identifier,
         kind: l.kind,
-        first: l.receiving1.next,
-        second: l.receiving2.next,
+        count1: l.receiving1.next,
+        count2: l.receiving2.next,
         reason,
     }
 }
 
 // Closes a line and writes its slip: answers how many octets, which is 12. NOLINE, ROOM for the output.
-pub fn close(book: Book, line: u8, out: &mut [u8]) -> Gave
-    ensures { λ r. ⌜ ((store : List ℕ) → made (writtenAnswer (r .answer)) (r .book) store (now (out .exit)) ≡ did (call.closing line) book store (now (out .entry))) ⌝ }
+pub fn close(book: Book, line: u8, out: &mut [u8]) -> Written
+    ensures { λ r. ⌜ ((store : List ℕ) → resultWith (writeSays (r .answer)) (r .book) store (now (out .exit)) ≡ resultOf (call.closing line) book store (now (out .entry))) ⌝ }
 {
     let verdict = calls::may_close(book, line, out.len());
     match verdict {
-        Verdict::Refuse(r) => Gave {
+        Verdict::Refuse(r) => Written {
             book,
-            answer: Written::Refused(r),
+            answer: WriteAnswer::Refused(r),
         },
         Verdict::Pass => {
             let slip = slip_of(book.line(line));
             let answer = slip::write(out, slip);
             let next = book.closed_at(line);
-            Gave { book: next, answer }
+            Written { book: next, answer }
         }
     }
 }

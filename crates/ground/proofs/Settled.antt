@@ -24,6 +24,6 @@ pub settled-took {ℓ κ} : {A : Type ℓ} (P : A → Type κ) (v : Verdict) (f 
 settled-took P v f e p = rw e p
 
 -- an answer that was settled by a verdict tells the verdict
-pub told {ℓ} : {A : Type ℓ} (why : A → Verdict) (v : Verdict) {refuse : Refusal → A} {took a : A} → a ≡ settle v refuse took → ((r : Refusal) → why (refuse r) ≡ Refuse r) → why took ≡ Pass → v ≡ why a
-told why Pass e f g = sym (ap why e ∙ g)
-told why (Refuse r) e f g = sym (ap why e ∙ f r)
+pub verdict-of-answer {ℓ} : {A : Type ℓ} (why : A → Verdict) (v : Verdict) {refuse : Refusal → A} {took a : A} → a ≡ settle v refuse took → ((r : Refusal) → why (refuse r) ≡ Refuse r) → why took ≡ Pass → v ≡ why a
+verdict-of-answer why Pass e f g = sym (ap why e ∙ g)
+verdict-of-answer why (Refuse r) e f g = sym (ap why e ∙ f r)

@@ -8,11 +8,11 @@ use lib.ListN.{length, drop}
 use native.Mathlib.Omega.{arith}
 use Rattle.ground.specs.Pick.{pick}
 use Rattle.ground.specs.Refusal.{Test, verdict}
-use Rattle.ground.specs.Answer.{Answer, refused, Gives, writtenAnswer, Writes}
+use Rattle.ground.specs.Answer.{Answer, refused, Gives, writeSays, Writes}
 use Rattle.ground.specs.declared.Refusal.{Refusal}
 use Rattle.ground.specs.declared.Verdict.{Verdict}
 use Rattle.ground.specs.declared.Verdict.the-variants.{Pass, Refuse}
-use Rattle.ground.specs.declared.Written.the-variants.{Wrote, Refused}
+use Rattle.ground.specs.declared.WriteAnswer.the-variants.{Wrote, Refused}
 use Rattle.ground.proofs.Settled.{settles-took, settles-refused}
 
 -- every test of the list holds
@@ -46,10 +46,10 @@ module _ {A : Type 0} (answerOf : A → Answer) (refuse : Refusal → A) (alone 
 -- and for a call that writes
 module _ {v : Verdict} (ts : List Test) (octets before : List ℕ) (e : v ≡ verdict ts) where
   pub writes : {after : List ℕ} {n : ℕ} → v ≡ Pass → n ≡ length octets → after ≡ octets ++ drop n before → Writes ts octets before after (Wrote n)
-  writes k p q = record { gives = gives-it writtenAnswer Refused (λ r. refl) ts (Wrote (length octets)) e k (ap Wrote p); leaves = q }
+  writes k p q = record { gives = gives-it writeSays Refused (λ r. refl) ts (Wrote (length octets)) e k (ap Wrote p); leaves = q }
 
   pub writes-not : {r : Refusal} → v ≡ Refuse r → Writes ts octets before before (Refused r)
-  writes-not k = record { gives = gives-not writtenAnswer Refused (λ r. refl) ts (Wrote (length octets)) e k; leaves = refl }
+  writes-not k = record { gives = gives-not writeSays Refused (λ r. refl) ts (Wrote (length octets)) e k; leaves = refl }
 
 -- a refusal leaves what is lent as it was, whatever was to be written
 pub refused-stays : {ts : List Test} {octets before after : List ℕ} {r : Refusal} → Writes ts octets before after (Refused r) → after ≡ before

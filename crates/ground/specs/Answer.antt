@@ -6,8 +6,8 @@ use mathlib.Core.List.{List, [], _∷_, _++_}
 use lib.ListN.{length, drop}
 use Rattle.ground.specs.Refusal.{numberOf, Test, verdict, settle}
 use Rattle.ground.specs.declared.Refusal.{Refusal}
-use Rattle.ground.specs.declared.Written.{Written}
-use Rattle.ground.specs.declared.Written.the-variants.{Wrote, Refused}
+use Rattle.ground.specs.declared.WriteAnswer.{WriteAnswer}
+use Rattle.ground.specs.declared.WriteAnswer.the-variants.{Wrote, Refused}
 
 -- the refusal's number, 0 where the call is accepted, and the values that it answers
 pub record Answer : Type 0 where
@@ -27,16 +27,16 @@ pub record Gives {A : Type 0} (answerOf : A → Answer) (ts : List Test) (refuse
   pub answer : answerOf r ≡ settle (verdict ts) refused (answerOf value)
 
 -- "the answer gives the count written"
-abbrev pub writtenAnswer : Written → Answer
-writtenAnswer (Wrote n) = accepted (n ∷ [])
-writtenAnswer (Refused r) = refused r
+abbrev pub writeSays : WriteAnswer → Answer
+writeSays (Wrote n) = accepted (n ∷ [])
+writeSays (Refused r) = refused r
 
 -- "An output's octets past what is written stay"; a refusal changes no octet
-abbrev pub contents : Written → List ℕ → List ℕ → List ℕ
+abbrev pub contents : WriteAnswer → List ℕ → List ℕ → List ℕ
 contents (Wrote n) octets l = octets ++ drop n l
 contents (Refused r) octets l = l
 
 -- What a call that writes octets into an output promises: its answer, and all that the output holds then.
-pub record Writes (ts : List Test) (octets before after : List ℕ) (r : Written) : Type 0 where
-  pub gives : Gives writtenAnswer ts Refused (Wrote (length octets)) r
+pub record Writes (ts : List Test) (octets before after : List ℕ) (r : WriteAnswer) : Type 0 where
+  pub gives : Gives writeSays ts Refused (Wrote (length octets)) r
   pub leaves : after ≡ contents r octets before

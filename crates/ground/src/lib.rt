@@ -1,4 +1,4 @@
-// What every room stands on: the refusals of document 01 by name, and the two shapes of answer that carry them.
+// What every crate stands on: the refusals of document 01 by name, and the two shapes of answer that carry them.
 ghost use mathlib.Core.Path.{_≡_};
 ghost use Rattle.ground.specs.Refusal.{numberOf};
 
@@ -31,7 +31,7 @@ pub enum Verdict {
 }
 
 // What a call that writes octets answers: how many it wrote, or why it wrote none.
-pub enum Written {
+pub enum WriteAnswer {
     Wrote(usize),
     Refused(Refusal),
 }

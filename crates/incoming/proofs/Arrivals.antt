@@ -11,42 +11,42 @@ use Rattle.ground.specs.declared.Refusal.{Refusal}
 use Rattle.ground.specs.declared.Refusal.the-variants.{NOLINE}
 use Rattle.ground.specs.declared.Verdict.{Verdict}
 use Rattle.ground.specs.declared.Verdict.the-variants.{Pass, Refuse}
-use Rattle.ground.proofs.Settled.{told}
+use Rattle.ground.proofs.Settled.{verdict-of-answer}
 use Rattle.ground.proofs.Verdicts.{passed, verdict-on, verdict-stop, pass-both}
 use Rattle.packet.specs.Read.{headAt, headTests, headRead}
 use Rattle.packet.specs.declared.Head.{Head}
-use Rattle.packet.specs.declared.HeadRead.{HeadRead}
-use Rattle.packet.specs.declared.HeadRead.the-variants as head
+use Rattle.packet.specs.declared.HeadReading.{HeadReading}
+use Rattle.packet.specs.declared.HeadReading.the-variants as head
 use Rattle.arriving.specs.Arrive.{arriveTests}
 use Rattle.book.specs.Book.{lineOf}
 use Rattle.book.specs.declared.Book.{Book}
-use Rattle.book.proofs.Owner.{whose-at}
-use Rattle.book.specs.declared.Whose.{Whose}
-use Rattle.book.specs.declared.Whose.the-variants.{At, Nobody}
+use Rattle.book.proofs.OneOwner.{whose-at}
+use Rattle.book.specs.declared.Owner.{Owner}
+use Rattle.book.specs.declared.Owner.the-variants.{At, Nobody}
 use Rattle.calls.specs.Order.{packetLine, isSomebody, lineAt, addressTests, arrivalTests}
-use Rattle.incoming.specs.declared.MayArrive.{MayArrive}
-use Rattle.incoming.specs.declared.MayArrive.the-variants as may
+use Rattle.incoming.specs.declared.ArriveVerdict.{ArriveVerdict}
+use Rattle.incoming.specs.declared.ArriveVerdict.the-variants as may
 
-abbrev pub whyHead : HeadRead → Verdict
+abbrev pub whyHead : HeadReading → Verdict
 whyHead (head.Says h) = Pass
 whyHead (head.Refused r) = Refuse r
 
-abbrev headIn : Head → HeadRead → Head
+abbrev headIn : Head → HeadReading → Head
 headIn d (head.Says h) = h
 headIn d (head.Refused r) = d
 
-abbrev pub whyMay : MayArrive → Verdict
+abbrev pub whyMay : ArriveVerdict → Verdict
 whyMay (may.At i) = Pass
 whyMay (may.Refused r) = Refuse r
 
-abbrev lineIn : MayArrive → ℕ
+abbrev lineIn : ArriveVerdict → ℕ
 lineIn (may.At i) = i
 lineIn (may.Refused r) = 0
 
 -- what a head's reading says of its tests
-module _ (s : List ℕ) {r : HeadRead} (e : r ≡ headRead s) where
+module _ (s : List ℕ) {r : HeadReading} (e : r ≡ headRead s) where
   pub head-verdict : verdict (headTests s) ≡ whyHead r
-  head-verdict = told whyHead (verdict (headTests s)) e (λ x. refl) refl
+  head-verdict = verdict-of-answer whyHead (verdict (headTests s)) e (λ x. refl) refl
 
   pub head-passes : {h : Head} → r ≡ head.Says h → verdict (headTests s) ≡ Pass
   head-passes p = head-verdict ∙ ap whyHead p
@@ -60,7 +60,7 @@ module _ (s : List ℕ) {r : HeadRead} (e : r ≡ headRead s) where
       ap (headIn (headAt s)) (sym p ∙ e ∙ q)
 
 module _ (b : Book) (s : List ℕ) where
-  abbrev pub addressed : MayArrive
+  abbrev pub addressed : ArriveVerdict
   addressed = settle (verdict (addressTests b s)) may.Refused (may.At (lineAt (packetLine b s)))
 
   abbrev last : List Test
@@ -80,9 +80,9 @@ module _ (b : Book) (s : List ℕ) where
     address-nobody p = sym (ap (λ (v : Verdict). settle v may.Refused (may.At (lineAt (packetLine b s)))) (verdict-on (headTests s) last e) ∙ simp p)
 
   -- what it was settled on tells the tests
-  module _ {r : MayArrive} (e : r ≡ addressed) where
+  module _ {r : ArriveVerdict} (e : r ≡ addressed) where
     address-verdict : verdict (addressTests b s) ≡ whyMay r
-    address-verdict = told whyMay (verdict (addressTests b s)) e (λ x. refl) refl
+    address-verdict = verdict-of-answer whyMay (verdict (addressTests b s)) e (λ x. refl) refl
 
     pub addressed-refused : {x : Refusal} → r ≡ may.Refused x → verdict (addressTests b s) ≡ Refuse x
     addressed-refused p = address-verdict ∙ ap whyMay p
@@ -92,14 +92,14 @@ module _ (b : Book) (s : List ℕ) where
       addressed-passes = address-verdict ∙ ap whyMay p
 
       pub addressed-line : i ≡ lineAt (packetLine b s)
-      addressed-line = ap lineIn (sym p ∙ e ∙ ap (λ (v : Verdict). settle {A = MayArrive} v may.Refused (may.At (lineAt (packetLine b s)))) addressed-passes)
+      addressed-line = ap lineIn (sym p ∙ e ∙ ap (λ (v : Verdict). settle {A = ArriveVerdict} v may.Refused (may.At (lineAt (packetLine b s)))) addressed-passes)
 
       pub addressed-owner : packetLine b s ≡ At i
       unfolding addressTests
       addressed-owner =
           go (packetLine b s) (passed last (pass-both (headTests s) last addressed-passes .1) .0) addressed-line
         where
-          go : (w : Whose) → isSomebody w ≡ true → i ≡ lineAt w → w ≡ At i
+          go : (w : Owner) → isSomebody w ≡ true → i ≡ lineAt w → w ≡ At i
           go (At j) t q = ap At (sym q)
           go Nobody t q = absurd (let z : _≡_ {A = ℕ} 0 1 = cc in omega arith)
 
@@ -114,5 +114,5 @@ module _ (b : Book) (s : List ℕ) where
     unfolding arrivalTests
     arrival-stop p = verdict-stop (addressTests b s) (arriveTests (lineOf b (lineAt (packetLine b s))) s) (addressed-refused p)
 
-  abbrev pub arrives : Verdict → MayArrive
+  abbrev pub arrives : Verdict → ArriveVerdict
   arrives v = settle v may.Refused (may.At (lineAt (packetLine b s)))

@@ -13,33 +13,33 @@ use Rattle.ground.specs.declared.Refusal.the-variants.{NOLINE}
 use Rattle.ground.specs.declared.Verdict.{Verdict}
 use Rattle.ground.specs.declared.Verdict.the-variants.{Pass, Refuse}
 use Rattle.ground.proofs.Verdicts.{passed, pass-both}
-use Rattle.ground.proofs.Settled.{told}
+use Rattle.ground.proofs.Settled.{verdict-of-answer}
 use Rattle.packet.specs.Read.{headAt, headTests}
 use Rattle.receiving.specs.Receiving.{nextSize}
 use Rattle.line.specs.Fit.{lineFits}
 use Rattle.line.specs.Line.{receivingOf}
 use Rattle.line.specs.declared.Line.{Line}
-use Rattle.store.specs.Store.{regionOf, roomAt}
+use Rattle.store.specs.Store.{regionOf, slotAt}
 use Rattle.store.specs.declared.Way.the-variants.{Receiving}
-use Rattle.store.proofs.Rooms.{room-end}
+use Rattle.store.proofs.Slots.{slot-end}
 use Rattle.relay.specs.HandOut.{handCallTests, handedOctets}
-use Rattle.relay.proofs.Lines.{region-size, room-there, hand-reliable, hand-steps, hand-size}
+use Rattle.relay.proofs.Lines.{region-size, slot-there, hand-reliable, hand-steps, hand-size}
 use Rattle.arriving.specs.Arrive.{arriveTests}
 use Rattle.book.specs.Book.{bookFits, lineOf}
 use Rattle.book.specs.declared.Book.{Book}
-use Rattle.book.specs.declared.Whose.{Whose}
-use Rattle.book.specs.declared.Whose.the-variants.{At, Nobody}
+use Rattle.book.specs.declared.Owner.{Owner}
+use Rattle.book.specs.declared.Owner.the-variants.{At, Nobody}
 use Rattle.book.proofs.Facts.{line-fits}
-use Rattle.book.proofs.Owner.{whose-at}
+use Rattle.book.proofs.OneOwner.{whose-at}
 use Rattle.calls.specs.Order.{fitBook, roomy, packetLine, isSomebody, lineAt, addressTests, arrivalTests}
-use Rattle.incoming.specs.declared.MayArrive.{MayArrive}
-use Rattle.incoming.specs.declared.MayArrive.the-variants as arrives
+use Rattle.incoming.specs.declared.ArriveVerdict.{ArriveVerdict}
+use Rattle.incoming.specs.declared.ArriveVerdict.the-variants as arrives
 
-abbrev whyArrive : MayArrive → Verdict
+abbrev whyArrive : ArriveVerdict → Verdict
 whyArrive (arrives.At i) = Pass
 whyArrive (arrives.Refused r) = Refuse r
 
-abbrev lineOr : MayArrive → ℕ
+abbrev lineOr : ArriveVerdict → ℕ
 lineOr (arrives.At i) = i
 lineOr (arrives.Refused r) = 0
 
@@ -66,32 +66,32 @@ addressed b n s e =
     let w = whose-at b (headAt s .identifier) i o in
     record { book = t .0; store = leb-true _ _ (t .1 .0); owner = o; number = w .0; opened = w .1; fits = line-fits b (t .0) i; head = h .0; line = q .1 }
   where
-    somebody : (w : Whose) → isSomebody w ≡ true → w ≡ At (lineAt w)
+    somebody : (w : Owner) → isSomebody w ≡ true → w ≡ At (lineAt w)
     somebody (At j) t = refl
     somebody Nobody t = absurd (let z : _≡_ {A = ℕ} 0 1 = cc in omega arith)
 
-module _ (b : Book) (n : ℕ) (s : List ℕ) {r : MayArrive} (e : r ≡ settle (verdict (fitBook b ∷ roomy n ∷ arrivalTests b s)) arrives.Refused (arrives.At (lineAt (packetLine b s)))) where
+module _ (b : Book) (n : ℕ) (s : List ℕ) {r : ArriveVerdict} (e : r ≡ settle (verdict (fitBook b ∷ roomy n ∷ arrivalTests b s)) arrives.Refused (arrives.At (lineAt (packetLine b s)))) where
   pub arrive-refuses : {x : Refusal} → r ≡ arrives.Refused x → verdict (fitBook b ∷ roomy n ∷ arrivalTests b s) ≡ Refuse x
-  arrive-refuses p = told whyArrive (verdict (fitBook b ∷ roomy n ∷ arrivalTests b s)) e (λ x. refl) refl ∙ ap whyArrive p
+  arrive-refuses p = verdict-of-answer whyArrive (verdict (fitBook b ∷ roomy n ∷ arrivalTests b s)) e (λ x. refl) refl ∙ ap whyArrive p
 
   module _ {i : ℕ} (p : r ≡ arrives.At i) where
     pub arrive-passes : verdict (fitBook b ∷ roomy n ∷ arrivalTests b s) ≡ Pass
-    arrive-passes = told whyArrive (verdict (fitBook b ∷ roomy n ∷ arrivalTests b s)) e (λ x. refl) refl ∙ ap whyArrive p
+    arrive-passes = verdict-of-answer whyArrive (verdict (fitBook b ∷ roomy n ∷ arrivalTests b s)) e (λ x. refl) refl ∙ ap whyArrive p
 
     pub arrive-line : lineAt (packetLine b s) ≡ i
-    arrive-line = sym (ap lineOr (sym p ∙ e ∙ ap (λ (v : Verdict). settle {A = MayArrive} v arrives.Refused (arrives.At (lineAt (packetLine b s)))) arrive-passes))
+    arrive-line = sym (ap lineOr (sym p ∙ e ∙ ap (λ (v : Verdict). settle {A = ArriveVerdict} v arrives.Refused (arrives.At (lineAt (packetLine b s)))) arrive-passes))
 
     pub arrive-addressed : Addressed b n s i
     arrive-addressed = rw arrive-line at (addressed b n s arrive-passes)
 
 -- the message handed out has as many octets as its size says
-pub handed-length : (l : Line) (i channel room : ℕ) (store : List ℕ) → lineFits l ≡ true → i < 4 → 42240 ≤ length store → verdict (handCallTests l channel room) ≡ Pass
+pub handed-length : (l : Line) (i channel slot : ℕ) (store : List ℕ) → lineFits l ≡ true → i < 4 → 42240 ≤ length store → verdict (handCallTests l channel slot) ≡ Pass
     → length (handedOctets l i channel store) ≡ nextSize (receivingOf l channel)
-handed-length l i channel room store fits number large e =
+handed-length l i channel slot store fits number large e =
     let g = regionOf i Receiving channel in
-    let p = receivingOf l channel .first in
-    let r = room-there i Receiving channel p (length store) number (hand-reliable l fits channel room e) (hand-steps l fits channel room e .placed) large in
+    let p = receivingOf l channel .origin in
+    let r = slot-there i Receiving channel p (length store) number (hand-reliable l fits channel slot e) (hand-steps l fits channel slot e .placed) large in
     let z = region-size i Receiving channel in
-    let m = hand-size l fits channel room e in
-    let d = length-drop (roomAt g p) store in
-    length-take (nextSize (receivingOf l channel)) (drop (roomAt g p) store) ∙ omega (arith, room-end g p (r .placed), r .inside, z, m, d)
+    let m = hand-size l fits channel slot e in
+    let d = length-drop (slotAt g p) store in
+    length-take (nextSize (receivingOf l channel)) (drop (slotAt g p) store) ∙ omega (arith, slot-end g p (r .placed), r .inside, z, m, d)

@@ -2,10 +2,10 @@
 -- Assumes nothing.
 use mathlib.Core.List.{[], _∷_}
 use Rattle.ground.specs.Answer.{Answer, accepted, refused}
-use Rattle.incoming.specs.declared.Arrived.{Arrived}
-use Rattle.incoming.specs.declared.Arrived.the-variants as arrived
+use Rattle.incoming.specs.declared.ArriveAnswer.{ArriveAnswer}
+use Rattle.incoming.specs.declared.ArriveAnswer.the-variants as arrived
 
 -- the line that the packet was for
-abbrev pub arrivedSays : Arrived → Answer
-arrivedSays (arrived.At i) = accepted (i ∷ [])
-arrivedSays (arrived.Refused r) = refused r
+abbrev pub arriveSays : ArriveAnswer → Answer
+arriveSays (arrived.At i) = accepted (i ∷ [])
+arriveSays (arrived.Refused r) = refused r

@@ -3,52 +3,52 @@
 ghost use Prim.Native.Nat.{ℕ};
 ghost use mathlib.Core.Path.{_≡_};
 ghost use mathlib.Core.List.{List};
-ghost use Rattle.ground.specs.Answer.{writtenAnswer};
+ghost use Rattle.ground.specs.Answer.{writeSays};
 ghost use Rattle.calls.specs.Call as call;
-ghost use Rattle.calls.specs.Did.{made, did};
-ghost use Rattle.incoming.specs.Says.{arrivedSays};
+ghost use Rattle.calls.specs.Result.{resultWith, resultOf};
+ghost use Rattle.incoming.specs.Says.{arriveSays};
 use book::Book;
-use calls::Gave;
+use calls::Written;
 use ground::Refusal;
 use ground::Verdict;
-use ground::Written;
+use ground::WriteAnswer;
 
 mod verdicts; // verdicts.rt: what refuses them
 
 // May a packet arrive, and at which line?
-pub enum MayArrive {
+pub enum ArriveVerdict {
     At(u8),
     Refused(Refusal),
 }
 
 // The line that a packet was for.
-pub enum Arrived {
+pub enum ArriveAnswer {
     At(u8),
     Refused(Refusal),
 }
 
-pub struct Came {
+pub struct Arrived {
     pub book: Book,
-    pub answer: Arrived,
+    pub answer: ArriveAnswer,
 }
 
 // A packet arrives. Its identifier says which line it is for, and the answer says which that is.
 // Refuses BOOK, ROOM for the store, SHORT for 6 octets, FORM, NOLINE, TYPE, MODE, SHORT for the list, CHANNEL, SIZE.
-pub fn arrive(book: Book, store: &mut [u8], packet: &[u8]) -> Came
-    ensures { λ r. ⌜ ((out : List ℕ) → made (arrivedSays (r .answer)) (r .book) (now (store .exit)) out ≡ did (call.arrival (now (packet .entry))) book (now (store .entry)) out) ⌝ }
+pub fn arrive(book: Book, store: &mut [u8], packet: &[u8]) -> Arrived
+    ensures { λ r. ⌜ ((out : List ℕ) → resultWith (arriveSays (r .answer)) (r .book) (now (store .exit)) out ≡ resultOf (call.arrival (now (packet .entry))) book (now (store .entry)) out) ⌝ }
 {
     let may = verdicts::may_arrive(book, store.len(), packet);
     match may {
-        MayArrive::Refused(r) => Came {
+        ArriveVerdict::Refused(r) => Arrived {
             book,
-            answer: Arrived::Refused(r),
+            answer: ArriveAnswer::Refused(r),
         },
-        MayArrive::At(line) => {
+        ArriveVerdict::At(line) => {
             let arrived = arriving::arrive(book.line(line), line, store, packet);
             let next = book.with_line(line, arrived);
-            Came {
+            Arrived {
                 book: next,
-                answer: Arrived::At(line),
+                answer: ArriveAnswer::At(line),
             }
         }
     }
@@ -56,23 +56,23 @@ pub fn arrive(book: Book, store: &mut [u8], packet: &[u8]) -> Came
 
 // Hands out message R of a channel into the output.
 // Refuses BOOK, ROOM for the store, RANGE for the line, NOLINE, MODE, CHANNEL, SPENT, NOTHING, ROOM for the output.
-pub fn hand_out(book: Book, store: &[u8], line: u8, channel: u8, out: &mut [u8]) -> Gave
-    ensures { λ r. ⌜ made (writtenAnswer (r .answer)) (r .book) (now (store .entry)) (now (out .exit)) ≡ did (call.handOut line channel) book (now (store .entry)) (now (out .entry)) ⌝ }
+pub fn hand_out(book: Book, store: &[u8], line: u8, channel: u8, out: &mut [u8]) -> Written
+    ensures { λ r. ⌜ resultWith (writeSays (r .answer)) (r .book) (now (store .entry)) (now (out .exit)) ≡ resultOf (call.handOut line channel) book (now (store .entry)) (now (out .entry)) ⌝ }
 {
     let verdict = verdicts::may_hand_out(book, store.len(), line, channel, out.len());
     match verdict {
-        Verdict::Refuse(r) => Gave {
+        Verdict::Refuse(r) => Written {
             book,
-            answer: Written::Refused(r),
+            answer: WriteAnswer::Refused(r),
         },
         Verdict::Pass => {
             let l = book.line(line);
             let size = l.receiving(channel).next_size() as usize;
             let handed = relay::hand_out(l, line, store, channel, out);
             let next = book.with_line(line, handed);
-            Gave {
+            Written {
                 book: next,
-                answer: Written::Wrote(size),
+                answer: WriteAnswer::Wrote(size),
             }
         }
     }

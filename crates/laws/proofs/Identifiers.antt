@@ -11,8 +11,8 @@ use Rattle.book.specs.Shape.{BookShaped}
 use Rattle.book.specs.declared.Book.{Book}
 use Rattle.book.proofs.Facts.{book-ok}
 use Rattle.book.proofs.Fresh.{fresh-fits, fresh-shaped}
-use Rattle.book.proofs.Owner.{one-owner, never-resting}
-use Rattle.calls.specs.Did.{did}
+use Rattle.book.proofs.OneOwner.{one-owner, never-resting}
+use Rattle.calls.specs.Result.{resultOf}
 use Rattle.laws.specs.Reached.{Turn, reach}
 use Rattle.laws.proofs.Keeps.{Passes, every-call-keeps}
 
@@ -45,7 +45,7 @@ pub reach-keeps : (ts : List Turn) (b : Book) (store : List ℕ) → bookFits b 
 unfolding reach
 reach-keeps [] b store fits shaped = (fits, shaped)
 reach-keeps (t ∷ ts) b store fits shaped =
-    let d = did (t .call) b store (t .out) in
+    let d = resultOf (t .call) b store (t .out) in
     let k = every-call-keeps (t .call) b store (t .out) fits shaped in
     reach-keeps ts (d .book) (d .store) (k .0) (k .1)
 

@@ -27,9 +27,9 @@ use Rattle.line.specs.Shape.{Shaped}
 use Rattle.line.specs.declared.Line.{Line}
 use Rattle.line.proofs.Keeps.{line-ok, ok-line, opened-ok, stepped-ok}
 use Rattle.line.proofs.Shape.{opened-shaped, stepped-shaped}
-use Rattle.store.specs.Store.{regionOf, roomAt}
+use Rattle.store.specs.Store.{regionOf, slotAt}
 use Rattle.store.specs.declared.Way.the-variants.{Sending}
-use Rattle.relay.specs.Asked.{relayTests}
+use Rattle.relay.specs.RelayTests.{relayChannelTests}
 use Rattle.relay.specs.Take.{takeCallTests, tookLine}
 use Rattle.relay.specs.HandOut.{handCallTests, handedLine}
 use Rattle.relay.proofs.Keeps.{took-line-same, handed-line-same, took-line-keeps, handed-line-keeps}
@@ -47,8 +47,8 @@ use Rattle.book.proofs.Keeps.{with-line-keeps, opened-keeps, closed-keeps, with
 use Rattle.calls.specs.Call.{Call}
 use Rattle.calls.specs.Call as call
 use Rattle.calls.specs.Order.{tests, lineFor, openTests, closeTests, modeTests, packetLine, lineAt}
-use Rattle.calls.proofs.Firsts.{line-passed, both-passed}
-use Rattle.calls.specs.Did.{Did, did, done, effect}
+use Rattle.calls.proofs.FirstTests.{line-passed, both-passed}
+use Rattle.calls.specs.Result.{CallResult, resultOf, acceptedResult, effect}
 use Rattle.incoming.proofs.Passing.{addressed}
 
 -- a book that passes: BOOK lets it pass, and its arrays have the lengths that they are declared with
@@ -74,16 +74,16 @@ moved-keeps l a opened fits shaped =
     )
 
 -- so do the calls that write a packet, in modem relay
-sent-keeps : (l : Line) (channel rank room : ℕ) → lineFits l ≡ true → Shaped l → verdict (sendTests l channel rank room) ≡ Pass → (lineFits (wroteLine l) ≡ true) × Shaped (wroteLine l)
-unfolding sendTests relayTests
-sent-keeps l channel rank room fits shaped e =
-    let t = passed (sendTests l channel rank room) e in
+sent-keeps : (l : Line) (channel rank space : ℕ) → lineFits l ≡ true → Shaped l → verdict (sendTests l channel rank space) ≡ Pass → (lineFits (wroteLine l) ≡ true) × Shaped (wroteLine l)
+unfolding sendTests relayChannelTests
+sent-keeps l channel rank space fits shaped e =
+    let t = passed (sendTests l channel rank space) e in
     wrote-line-keeps l (t .0) fits (eqb-true _ _ (t .1 .0)) shaped
 
-empty-keeps : (l : Line) (channel room : ℕ) → lineFits l ≡ true → Shaped l → verdict (emptyTests l channel room) ≡ Pass → (lineFits (wroteLine l) ≡ true) × Shaped (wroteLine l)
+empty-keeps : (l : Line) (channel space : ℕ) → lineFits l ≡ true → Shaped l → verdict (emptyTests l channel space) ≡ Pass → (lineFits (wroteLine l) ≡ true) × Shaped (wroteLine l)
 unfolding emptyTests
-empty-keeps l channel room fits shaped e =
-    let t = passed (emptyTests l channel room) e in
+empty-keeps l channel space fits shaped e =
+    let t = passed (emptyTests l channel space) e in
     wrote-line-keeps l (t .0) fits (eqb-true _ _ (t .1 .0)) shaped
 
 module _ (b : Book) (fits : bookFits b ≡ true) (shaped : BookShaped b) where
@@ -92,8 +92,8 @@ module _ (b : Book) (fits : bookFits b ≡ true) (shaped : BookShaped b) where
   put-keeps i l o e k = (with-line-keeps b fits i l (k .0) o e, with-line-shaped b shaped i l (k .1))
 
   -- what an accepted call leaves, call by call
-  done-keeps : (c : Call) (store out : List ℕ) → verdict (tests c b (length store) (length out)) ≡ Pass → Passes (done c b store out .book)
-  unfolding tests lineFor effect done openTests closeTests modeTests
+  done-keeps : (c : Call) (store out : List ℕ) → verdict (tests c b (length store) (length out)) ≡ Pass → Passes (acceptedResult c b store out .book)
+  unfolding tests lineFor effect acceptedResult openTests closeTests modeTests
   done-keeps (call.opening i s time) store out e =
       let p = line-passed b i (openTests b i s) e in
       let t = passed (openTests b i s) (p .1) in
@@ -143,10 +143,10 @@ module _ (b : Book) (fits : bookFits b ≡ true) (shaped : BookShaped b) where
 
 -- THE PROMISE: whatever call it is, whatever it names and is lent, and whatever it answers
 pub every-call-keeps : (c : Call) (b : Book) (store out : List ℕ) → bookFits b ≡ true → BookShaped b
-    → (bookFits (did c b store out .book) ≡ true) × BookShaped (did c b store out .book)
-unfolding did
+    → (bookFits (resultOf c b store out .book) ≡ true) × BookShaped (resultOf c b store out .book)
+unfolding resultOf
 every-call-keeps c b store out fits shaped =
-    settled-by (λ (d : Did). Passes (d .book)) (verdict (tests c b (length store) (length out))) (λ r e. (fits, shaped)) (λ e. done-keeps b fits shaped c store out e)
+    settled-by (λ (d : CallResult). Passes (d .book)) (verdict (tests c b (length store) (length out))) (λ r e. (fits, shaped)) (λ e. done-keeps b fits shaped c store out e)
 
 -- and the store that is lent stays as long as it was
 effect-length : (c : Call) (i : ℕ) (l : Line) (store out : List ℕ) → length (effect c i l store out .store) ≡ length store
@@ -154,16 +154,16 @@ unfolding effect
 effect-length (call.opening j s time) i l store out = refl
 effect-length (call.closing j) i l store out = refl
 effect-length (call.mode j a) i l store out = refl
-effect-length (call.taking j channel message) i l store out = length-sets store (roomAt (regionOf i Sending channel) (nextPlace (windowOf channel) (sendingOf l channel))) message
+effect-length (call.taking j channel message) i l store out = length-sets store (slotAt (regionOf i Sending channel) (nextPlace (windowOf channel) (sendingOf l channel))) message
 effect-length (call.sending j channel rank) i l store out = refl
 effect-length (call.empty j channel) i l store out = refl
 effect-length (call.arrival s) i l store out = arrived-store-length l i s store
 effect-length (call.handOut j channel) i l store out = refl
 effect-length (call.report j channel) i l store out = refl
 
-pub store-length : (c : Call) (b : Book) (store out : List ℕ) → length (did c b store out .store) ≡ length store
-unfolding did done
+pub store-length : (c : Call) (b : Book) (store out : List ℕ) → length (resultOf c b store out .store) ≡ length store
+unfolding resultOf acceptedResult
 store-length c b store out =
-    settled-by (λ (d : Did). length (d .store) ≡ length store) (verdict (tests c b (length store) (length out)))
+    settled-by (λ (d : CallResult). length (d .store) ≡ length store) (verdict (tests c b (length store) (length out)))
     (λ r e. refl)
     (λ e. effect-length c (lineFor c b) (lineOf b (lineFor c b)) store out)

@@ -1,7 +1,7 @@
 pub mod LineFor
 pub mod Keeps
 pub mod Others
-pub mod Own
+pub mod OwnLine
 pub mod Identifiers
 pub mod Unread
 pub mod Answers

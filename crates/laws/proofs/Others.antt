@@ -1,4 +1,4 @@
--- Other lines and their rooms stay, whatever call it is; octets past the store are never touched.
+-- Other lines and their slots stay, whatever call it is; octets past the store are never touched.
 -- Assumes nothing.
 use Prim.Native.Nat.{ℕ, _≤_, _<_}
 use mathlib.Core.Path.{_≡_, refl, ap, _∙_}
@@ -22,13 +22,13 @@ use Rattle.receiving.specs.declared.Arrival.the-variants.{Stored, There, Old}
 use Rattle.line.specs.Fit.{largest}
 use Rattle.line.specs.Line.{sendingOf, receivingOf}
 use Rattle.line.specs.declared.Line.{Line}
-use Rattle.store.specs.Store.{regionOf, roomAt, roomOf}
+use Rattle.store.specs.Store.{regionOf, slotAt, slotOctets}
 use Rattle.store.specs.declared.Way.{Way}
 use Rattle.store.specs.declared.Way.the-variants as way
 use Rattle.store.proofs.Octets.{region-kept}
 use Rattle.store.proofs.Octets as octets
-use Rattle.store.proofs.Rooms.{Whose, Served, region, region-end, regions-apart}
-use Rattle.relay.specs.Asked.{reliable}
+use Rattle.store.proofs.Slots.{Owner, Served, region, region-end, regions-apart}
+use Rattle.relay.specs.RelayTests.{reliable}
 use Rattle.relay.specs.Take.{takeCallTests}
 use Rattle.relay.proofs.Lines.{channel-span, region-places, region-size, take-reliable, take-size, take-place}
 use Rattle.arriving.specs.Effect.{Relaying, arrivalAt, putAs, storedStore}
@@ -38,26 +38,26 @@ use Rattle.arriving.proofs.Arrivals.{arrive-relaying, arrive-size, arrive-relia
 use Rattle.book.specs.Book.{lineOf}
 use Rattle.book.specs.Shape.{BookShaped}
 use Rattle.book.specs.declared.Book.{Book}
-use Rattle.book.proofs.Apart.{line-other, closed-other}
+use Rattle.book.proofs.OtherLines.{line-other, closed-other}
 use Rattle.calls.specs.Call.{Call}
 use Rattle.calls.specs.Call as call
 use Rattle.calls.specs.Order.{tests, lineFor, packetLine, lineAt}
-use Rattle.calls.proofs.Firsts.{both-passed}
-use Rattle.calls.specs.Did.{Did, did, done, effect}
+use Rattle.calls.proofs.FirstTests.{both-passed}
+use Rattle.calls.specs.Result.{CallResult, resultOf, acceptedResult, effect}
 use Rattle.incoming.proofs.Passing.{addressed}
 
 -- Every line but the one that the call is for has the record that it had.
-pub others-stay : (c : Call) (b : Book) (store out : List ℕ) (j : ℕ) → (lineFor c b ≡ j → ⊥) → lineOf (did c b store out .book) j ≡ lineOf b j
-unfolding did done
+pub others-stay : (c : Call) (b : Book) (store out : List ℕ) (j : ℕ) → (lineFor c b ≡ j → ⊥) → lineOf (resultOf c b store out .book) j ≡ lineOf b j
+unfolding resultOf acceptedResult
 others-stay c b store out j n =
-    settled-by (λ (d : Did). lineOf (d .book) j ≡ lineOf b j) (verdict (tests c b (length store) (length out)))
+    settled-by (λ (d : CallResult). lineOf (d .book) j ≡ lineOf b j) (verdict (tests c b (length store) (length out)))
     (λ r e. refl)
     (λ _.
     let i = lineFor c b in
     let e = effect c i (lineOf b i) store out in
     pick-by (λ (a : Book). lineOf a j ≡ lineOf b j) (e .rests) (λ _. closed-other b i j n) (λ _. line-other b i (e .line) j n))
 
--- One message is put into one room of line i.
+-- One message is put into one slot of line i.
 pub record PutIn (i : ℕ) (store after : List ℕ) : Type 0 where
   pub way : Way
   pub channel : ℕ
@@ -68,10 +68,10 @@ pub record PutIn (i : ℕ) (store after : List ℕ) : Type 0 where
   pub reliably : reliable channel ≡ true
   pub near : place < windowOf channel
   pub small : length message ≤ largest
-  pub is : after ≡ sets store (roomAt (regionOf i way channel) place) message
+  pub is : after ≡ sets store (slotAt (regionOf i way channel) place) message
 
 module _ (i : ℕ) (store after : List ℕ) (p : PutIn i store after) where
-  abbrev at : Whose
+  abbrev at : Owner
   at = record { line = i; way = p .way; channel = p .channel }
 
   served : Served at
@@ -83,17 +83,17 @@ module _ (i : ℕ) (store after : List ℕ) (p : PutIn i store after) where
   sized : length (p .message) ≤ region at .size
   sized = rw (region-size i (p .way) (p .channel)) (p .small)
 
-  -- the rooms of another line, way or channel hold what they held
-  pub put-apart : (y : Whose) → Served y → at ≢ y → (q : ℕ) → q < windowOf (y .channel) → roomOf after (region y) q ≡ roomOf store (region y) q
+  -- the slots of another line, way or channel hold what they held
+  pub put-apart : (y : Owner) → Served y → at ≢ y → (q : ℕ) → q < windowOf (y .channel) → slotOctets after (region y) q ≡ slotOctets store (region y) q
   put-apart y s d q l =
-      ap (λ (m : List ℕ). roomOf m (region y) q) (p .is)
+      ap (λ (m : List ℕ). slotOctets m (region y) q) (p .is)
       ∙ region-kept store (region at) (omega (arith, region-end at served, p .long)) (p .place) (p .message) placed sized (region y) (regions-apart at y served s d) q
       (rw (region-places (y .line) (y .way) (y .channel)) l)
 
   pub put-past : drop 42240 after ≡ drop 42240 store
   put-past = ap (drop 42240) (p .is) ∙ octets.past-stays store at (p .place) (p .message) served placed sized (p .long)
 
--- What an accepted call makes of the store: nothing, or a message is put into one room of the line that it is for.
+-- What an accepted call makes of the store: nothing, or a message is put into one slot of the line that it is for.
 abbrev pub Puts : ℕ → List ℕ → List ℕ → Type 0
 Puts i store after = (after ≡ store) ⊎ PutIn i store after
 
@@ -158,22 +158,22 @@ puts (call.report i channel) b store out e k = inl refl
 
 module _ (c : Call) (b : Book) (store out : List ℕ) (k : BookShaped b) where
   abbrev after : List ℕ
-  after = did c b store out .store
+  after = resultOf c b store out .store
 
   -- whatever the answer
   pub did-puts : Puts (lineFor c b) store after
-  unfolding did done
-  did-puts = settled-by (λ (d : Did). Puts (lineFor c b) store (d .store)) (verdict (tests c b (length store) (length out))) (λ r e. inl refl) (λ e. puts c b store out e k)
+  unfolding resultOf acceptedResult
+  did-puts = settled-by (λ (d : CallResult). Puts (lineFor c b) store (d .store)) (verdict (tests c b (length store) (length out))) (λ r e. inl refl) (λ e. puts c b store out e k)
 
-  -- The rooms of every other line hold what they held, both ways and on both channels.
-  pub rooms-stay : (j : ℕ) → j < 4 → (lineFor c b ≡ j → ⊥) → (w : Way) (channel : ℕ) → reliable channel ≡ true
-      → (p : ℕ) → p < windowOf channel → roomOf after (regionOf j w channel) p ≡ roomOf store (regionOf j w channel) p
-  rooms-stay j h n w channel v p l =
-      ⊎-elim (λ e. ap (λ (m : List ℕ). roomOf m (regionOf j w channel) p) e)
-      (λ r. put-apart (lineFor c b) store after r y served-y (λ e. n (ap (λ (x : Whose). x .line) e)) p l)
+  -- The slots of every other line hold what they held, both ways and on both channels.
+  pub slots-stay : (j : ℕ) → j < 4 → (lineFor c b ≡ j → ⊥) → (w : Way) (channel : ℕ) → reliable channel ≡ true
+      → (p : ℕ) → p < windowOf channel → slotOctets after (regionOf j w channel) p ≡ slotOctets store (regionOf j w channel) p
+  slots-stay j h n w channel v p l =
+      ⊎-elim (λ e. ap (λ (m : List ℕ). slotOctets m (regionOf j w channel) p) e)
+      (λ r. put-apart (lineFor c b) store after r y served-y (λ e. n (ap (λ (x : Owner). x .line) e)) p l)
       did-puts
     where
-      y : Whose
+      y : Owner
       y = record { line = j; way = w; channel = channel }
 
       served-y : Served y

@@ -22,7 +22,7 @@ use Rattle.line.specs.Fit.{settingsFit}
 use Rattle.line.specs.Line.{closedLine, openedLine}
 use Rattle.line.specs.declared.Line.{Line}
 use Rattle.line.specs.declared.Settings.{Settings}
-use Rattle.relay.specs.Asked.{relayTests}
+use Rattle.relay.specs.RelayTests.{relayChannelTests}
 use Rattle.relay.specs.Take.{takeCallTests}
 use Rattle.relay.specs.HandOut.{handCallTests}
 use Rattle.writing.specs.Write.{emptyTests}
@@ -30,17 +30,17 @@ use Rattle.writing.specs.Send.{sendTests}
 use Rattle.arriving.specs.Arrive.{arriveTests}
 use Rattle.book.specs.Book.{lineOf, withLine, restingOf, bookFits, taken}
 use Rattle.book.specs.Resting.{rests, restedIn}
-use Rattle.book.specs.Rest.{closedAt}
+use Rattle.book.specs.Closing.{closedAt}
 use Rattle.book.specs.declared.Book.{Book}
-use Rattle.book.specs.declared.Whose.{Whose}
-use Rattle.book.proofs.Apart.{line-other}
+use Rattle.book.specs.declared.Owner.{Owner}
+use Rattle.book.proofs.OtherLines.{line-other}
 use Rattle.book.proofs.Unread.{closed-unread, taken-unread, whose-unread}
 use Rattle.calls.specs.Call.{Call}
 use Rattle.calls.specs.Call as call
 use Rattle.calls.specs.Order.{tests, lineFor, fitBook, roomy, lineNumber, isOpen, openTests, closeTests, modeTests, packetLine, isSomebody, lineAt, addressTests, arrivalTests}
-use Rattle.calls.specs.Did.{Did, Effect, made, did, done, effect}
-use Rattle.calls.proofs.Dids.{did-done, did-refused}
-use Rattle.laws.proofs.Own.{accepted-passes}
+use Rattle.calls.specs.Result.{CallResult, Effect, resultWith, resultOf, acceptedResult, effect}
+use Rattle.calls.proofs.Results.{result-accepted, did-refused}
+use Rattle.laws.proofs.OwnLine.{accepted-passes}
 use Rattle.laws.proofs.LineFor.{opens, pass-address, pass-open}
 
 -- the books are one, once the record of line i is put aside
@@ -48,7 +48,7 @@ abbrev pub SameBeside : ℕ → Book → Book → Type 0
 SameBeside i a b = withLine a i closedLine ≡ withLine b i closedLine
 
 -- two calls gave the same answer and left the same in what was lent, and the same books but for the record of line i
-pub record SameDid (i : ℕ) (d e : Did) : Type 0 where
+pub record SameDid (i : ℕ) (d e : CallResult) : Type 0 where
   pub answer : d .answer ≡ e .answer
   pub store : d .store ≡ e .store
   pub out : d .out ≡ e .out
@@ -145,7 +145,7 @@ module _ (b : Book) (i : ℕ) (o : lineOf b i .opened ≡ false) (m : Line) (c :
 
   address-same : (s : List ℕ) → addressTests b s ≡ addressTests other s
   unfolding addressTests
-  address-same s = ap (λ (w : Whose). headTests s ++ (must (isSomebody w) NOLINE ∷ [])) (finds-same s)
+  address-same s = ap (λ (w : Owner). headTests s ++ (must (isSomebody w) NOLINE ∷ [])) (finds-same s)
 
   arrival-same : (s : List ℕ) → verdict (arrivalTests b s) ≡ verdict (arrivalTests other s)
   unfolding arrivalTests
@@ -159,24 +159,24 @@ module _ (b : Book) (i : ℕ) (o : lineOf b i .opened ≡ false) (m : Line) (c :
 
       go : (v : Verdict) → verdict (addressTests b s) ≡ v → verdict (addressTests b s ++ arriveTests here s) ≡ verdict (addressTests other s ++ arriveTests there s)
       go Pass e =
-          let same : here ≡ there = open-same (lineAt (packetLine b s)) (pass-address b s e) ∙ ap (λ (w : Whose). lineOf other (lineAt w)) (finds-same s) in
+          let same : here ≡ there = open-same (lineAt (packetLine b s)) (pass-address b s e) ∙ ap (λ (w : Owner). lineOf other (lineAt w)) (finds-same s) in
           λ t. verdict (address-same s t ++ arriveTests (same t) s)
       go (Refuse r) e =
           verdict-stop (addressTests b s) (arriveTests here s) e
           ∙ sym (verdict-stop (addressTests other s) (arriveTests there s) (ap verdict (sym (address-same s)) ∙ e))
 
   -- so every call comes to the same verdict
-  verdict-same : (k : Call) (n room : ℕ) → verdict (tests k b n room) ≡ verdict (tests k other n room)
-  unfolding tests closeTests modeTests relayTests takeCallTests sendTests emptyTests handCallTests
-  verdict-same (call.opening j s time) n room = opening-same j s
-  verdict-same (call.closing j) n room = on-line-same j (λ l. drop 1 (closeTests l room))
-  verdict-same (call.mode j a) n room = on-line-same j (λ l. drop 1 (modeTests l a))
-  verdict-same (call.taking j channel message) n room = on-lent-same n j (λ l. drop 1 (takeCallTests l channel (length message)))
-  verdict-same (call.sending j channel rank) n room = on-lent-same n j (λ l. drop 1 (sendTests l channel rank room))
-  verdict-same (call.empty j channel) n room = on-line-same j (λ l. drop 1 (emptyTests l channel room))
-  verdict-same (call.arrival s) n room = λ t. pick (fits-same t) (pick (leb 42240 n) (arrival-same s t) (Refuse ROOM)) (Refuse BOOK)
-  verdict-same (call.handOut j channel) n room = on-lent-same n j (λ l. drop 1 (handCallTests l channel room))
-  verdict-same (call.report j channel) n room = on-line-same j (λ l. drop 1 (relayTests l channel))
+  verdict-same : (k : Call) (n space : ℕ) → verdict (tests k b n space) ≡ verdict (tests k other n space)
+  unfolding tests closeTests modeTests relayChannelTests takeCallTests sendTests emptyTests handCallTests
+  verdict-same (call.opening j s time) n space = opening-same j s
+  verdict-same (call.closing j) n space = on-line-same j (λ l. drop 1 (closeTests l space))
+  verdict-same (call.mode j a) n space = on-line-same j (λ l. drop 1 (modeTests l a))
+  verdict-same (call.taking j channel message) n space = on-lent-same n j (λ l. drop 1 (takeCallTests l channel (length message)))
+  verdict-same (call.sending j channel rank) n space = on-lent-same n j (λ l. drop 1 (sendTests l channel rank space))
+  verdict-same (call.empty j channel) n space = on-line-same j (λ l. drop 1 (emptyTests l channel space))
+  verdict-same (call.arrival s) n space = λ t. pick (fits-same t) (pick (leb 42240 n) (arrival-same s t) (Refuse ROOM)) (Refuse BOOK)
+  verdict-same (call.handOut j channel) n space = on-lent-same n j (λ l. drop 1 (handCallTests l channel space))
+  verdict-same (call.report j channel) n space = on-line-same j (λ l. drop 1 (relayChannelTests l channel))
 
   -- and is for the same line, which is the same in both unless the call opens it
   line-same : (k : Call) → lineFor k b ≡ lineFor k other
@@ -199,8 +199,8 @@ module _ (b : Book) (i : ℕ) (o : lineOf b i .opened ≡ false) (m : Line) (c :
       (λ p. opening-whole k p j (lineOf b j) (lineOf other j) store out)
       (λ p. ap (λ (l : Line). effect k j l store out) (open-same j (pass-open k b (length store) (length out) e p)))
 
-  done-same : (k : Call) (store out : List ℕ) → verdict (tests k b (length store) (length out)) ≡ Pass → SameDid i (done k b store out) (done k other store out)
-  unfolding done closedAt
+  done-same : (k : Call) (store out : List ℕ) → verdict (tests k b (length store) (length out)) ≡ Pass → SameDid i (acceptedResult k b store out) (acceptedResult k other store out)
+  unfolding acceptedResult closedAt
   done-same k store out e =
       subst (SameDid i (leaves b j its))
       (ap (leaves other j) (effect-same k store out e) ∙ ap (λ (n : ℕ). leaves other n (effect k n (lineOf other n) store out)) (line-same k))
@@ -212,8 +212,8 @@ module _ (b : Book) (i : ℕ) (o : lineOf b i .opened ≡ false) (m : Line) (c :
       its : Effect
       its = effect k j (lineOf b j) store out
 
-      leaves : Book → ℕ → Effect → Did
-      leaves a n f = made (accepted (f .values)) (pick (f .rests) (closedAt a n) (withLine a n (f .line))) (f .store) (f .out)
+      leaves : Book → ℕ → Effect → CallResult
+      leaves a n f = resultWith (accepted (f .values)) (pick (f .rests) (closedAt a n) (withLine a n (f .line))) (f .store) (f .out)
 
       go : (t : Bool) → its .rests ≡ t → SameBeside i (pick t (closedAt b j) (withLine b j (its .line))) (pick t (closedAt other j) (withLine other j (its .line)))
       go true p =
@@ -221,31 +221,31 @@ module _ (b : Book) (i : ℕ) (o : lineOf b i .opened ≡ false) (m : Line) (c :
           λ t. let r = rests (restingOf b) (same t .identifier) in record { lines = put-beside (b .lines) i j m closedLine closedLine t; resting = restedIn (b .resting) r; rested = length r }
       go false p = λ t. record { lines = put-beside (b .lines) i j m (its .line) closedLine t; resting = b .resting; rested = b .rested }
 
-  did-same : (k : Call) (store out : List ℕ) → SameDid i (did k b store out) (did k other store out)
+  did-same : (k : Call) (store out : List ℕ) → SameDid i (resultOf k b store out) (resultOf k other store out)
   did-same k store out = go (verdict (tests k b (length store) (length out))) refl
     where
-      go : (v : Verdict) → verdict (tests k b (length store) (length out)) ≡ v → SameDid i (did k b store out) (did k other store out)
-      go Pass e = rw (did-done k b store out e, did-done k other store out (sym (verdict-same k (length store) (length out)) ∙ e)) (done-same k store out e)
+      go : (v : Verdict) → verdict (tests k b (length store) (length out)) ≡ v → SameDid i (resultOf k b store out) (resultOf k other store out)
+      go Pass e = rw (result-accepted k b store out e, result-accepted k other store out (sym (verdict-same k (length store) (length out)) ∙ e)) (done-same k store out e)
       go (Refuse r) e =
           rw (did-refused k b store out e, did-refused k other store out (sym (verdict-same k (length store) (length out)) ∙ e))
           (record { answer = refl; store = refl; out = refl; book = sym (put-twice b i m closedLine) })
 
 -- THE PROMISE: whatever stands in a closed line's record, every call gives the same answer and leaves the same, but for that record.
 pub closed-record-unread : (b : Book) (i : ℕ) (l m : Line) → l .opened ≡ false → m .opened ≡ false → (c : Call) (store out : List ℕ)
-    → SameDid i (did c (withLine b i l) store out) (did c (withLine b i m) store out)
+    → SameDid i (resultOf c (withLine b i l) store out) (resultOf c (withLine b i m) store out)
 closed-record-unread b i l m p q c store out =
-    subst (λ (a : Book). SameDid i (did c (withLine b i l) store out) (did c a store out)) (put-twice b i l m)
+    subst (λ (a : Book). SameDid i (resultOf c (withLine b i l) store out) (resultOf c a store out)) (put-twice b i l m)
     (did-same (withLine b i l) i (put-closed (b .lines) i l p) m q c store out)
 
 -- Opening that line writes the record whole: where it is accepted nothing at all differs.
 pub opening-unread : (b : Book) (i : ℕ) (l m : Line) → l .opened ≡ false → m .opened ≡ false → (s : Settings) (time : ℕ) (store out : List ℕ)
-    → did (call.opening i s time) (withLine b i l) store out .answer .number ≡ 0
-    → did (call.opening i s time) (withLine b i l) store out ≡ did (call.opening i s time) (withLine b i m) store out
-unfolding done effect lineFor
+    → resultOf (call.opening i s time) (withLine b i l) store out .answer .number ≡ 0
+    → resultOf (call.opening i s time) (withLine b i l) store out ≡ resultOf (call.opening i s time) (withLine b i m) store out
+unfolding acceptedResult effect lineFor
 opening-unread b i l m p q s time store out z =
     let c = call.opening i s time in
     let e = accepted-passes c (withLine b i l) store out z in
     let f = accepted-passes c (withLine b i m) store out (ap (λ (a : Answer). a .number) (sym (closed-record-unread b i l m p q c store out .answer)) ∙ z) in
-    did-done c (withLine b i l) store out e
-    ∙ ap (λ (a : Book). made (accepted []) a store out) (put-twice b i l (openedLine s time) ∙ sym (put-twice b i m (openedLine s time)))
-    ∙ sym (did-done c (withLine b i m) store out f)
+    result-accepted c (withLine b i l) store out e
+    ∙ ap (λ (a : Book). resultWith (accepted []) a store out) (put-twice b i l (openedLine s time) ∙ sym (put-twice b i m (openedLine s time)))
+    ∙ sym (result-accepted c (withLine b i m) store out f)

@@ -10,15 +10,15 @@ use Rattle.ground.specs.Refusal.{verdict}
 use Rattle.ground.specs.declared.Verdict.the-variants.{Pass}
 use Rattle.ground.proofs.Settled.{settled-took}
 use Rattle.mode.specs.declared.Modes.{Modes}
-use Rattle.mode.specs.declared.Hearing.{Hearing}
-use Rattle.mode.specs.declared.Asking.{Asking}
+use Rattle.mode.specs.declared.HearStep.{HearStep}
+use Rattle.mode.specs.declared.AskStep.{AskStep}
 use Rattle.mode.specs.declared.Channels.the-variants.{Stay}
 use Rattle.mode.specs.Moved.{moved, trying, stayed}
-use Rattle.mode.specs.Indication.{hearTests, heardMode, heardModes, hearing}
-use Rattle.mode.specs.Request.{askTests, asking}
+use Rattle.mode.specs.Indication.{hearTests, heardMode, heardModes, hearStep}
+use Rattle.mode.specs.Request.{askTests, askStep}
 use Rattle.ground.specs.Pick.{bit}
 use Rattle.ground.specs.Answer.{accepted}
-use Rattle.mode.specs.Says.{heardSays, askedSays}
+use Rattle.mode.specs.Says.{hearSays, askSays}
 use Rattle.mode.specs.Acts.{hear, ask, outcome, after}
 use Rattle.mode.proofs.Emptying.{same-stays}
 use Rattle.mode.proofs.Steps.{heard-by, moved-same}
@@ -36,23 +36,23 @@ heard-remote l k time = heard-by (λ n. n .remote ≡ k) l k time (λ a b. refl)
 pub heard-says : (l : Modes) (k time : ℕ) → verdict (hearTests l k time) ≡ Pass →
     let n = after l (hear k time) in
     outcome l (hear k time) .said ≡ accepted (n .local ∷ bit (not (eqb (n .remote) (l .remote))) ∷ [])
-unfolding hearing
+unfolding hearStep
 heard-says l k time e =
-    settled-took (λ (o : Hearing). heardSays (o .answer) ≡ accepted (o .modes .local ∷ bit (not (eqb (o .modes .remote) (l .remote))) ∷ []))
+    settled-took (λ (o : HearStep). hearSays (o .answer) ≡ accepted (o .modes .local ∷ bit (not (eqb (o .modes .remote) (l .remote))) ∷ []))
     (verdict (hearTests l k time)) _ e
     (λ i. accepted (sym (heard-local l k time) i ∷ bit (not (eqb (sym (heard-remote l k time) i) (l .remote))) ∷ []))
 
 -- a request is answered S, which is the mode it named
 pub asked-says : (l : Modes) (k time : ℕ) → verdict (askTests l k time) ≡ Pass →
     (outcome l (ask k time) .said ≡ accepted (after l (ask k time) .local ∷ [])) × (after l (ask k time) .local ≡ k)
-unfolding asking moved
+unfolding askStep moved
 asked-says l k time e =
-    settled-took (λ (o : Asking). (askedSays (o .answer) ≡ accepted (o .modes .local ∷ [])) × (o .modes .local ≡ k))
+    settled-took (λ (o : AskStep). (askSays (o .answer) ≡ accepted (o .modes .local ∷ [])) × (o .modes .local ≡ k))
     (verdict (askTests l k time)) _ e (refl, refl)
 
 -- "naming the present mode changes only the time"
 pub present-mode : (l : Modes) (time : ℕ) → verdict (askTests l (l .local) time) ≡ Pass →
     outcome l (ask (l .local) time) ≡ record { said = accepted (l .local ∷ []); modes = stayed l time; channels = Stay }
-unfolding asking
+unfolding askStep
 present-mode l time e =
     rw e (λ i. record { said = accepted (l .local ∷ []); modes = moved-same l time i; channels = same-stays (l .local) i })

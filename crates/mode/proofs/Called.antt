@@ -9,9 +9,9 @@ use lib.Seq.{take-all}
 use Rattle.ground.specs.Refusal.{verdict}
 use Rattle.ground.proofs.Settled.{settled-by}
 use Rattle.mode.specs.declared.Modes.{Modes}
-use Rattle.mode.specs.declared.Ticking.{Ticking}
+use Rattle.mode.specs.declared.TickStep.{TickStep}
 use Rattle.mode.specs.Moved.{moved, trying}
-use Rattle.mode.specs.Recovery.{tickTests, ticking}
+use Rattle.mode.specs.Recovery.{tickTests, tickStep}
 use Rattle.mode.specs.Acts.{Act, hear, ask, tick, after, run, calledBy, called, calledIn, NoAudio, NoneAudio}
 use Rattle.mode.proofs.Steps.{hear-by, ask-by, heard-by, tick-cases}
 
@@ -35,10 +35,10 @@ Counts n xs m = take n five ++ xs ≡ take m five
 none-called : (n : ℕ) → Counts n [] n
 none-called n = append-nil (take n five)
 
-ticked-counts : (l : Modes) (time : ℕ) → Counts (l .tries) (calledBy (ticking l time .answer)) (ticking l time .modes .tries)
-unfolding ticking moved trying
+ticked-counts : (l : Modes) (time : ℕ) → Counts (l .tries) (calledBy (tickStep l time .answer)) (tickStep l time .modes .tries)
+unfolding tickStep moved trying
 ticked-counts l time =
-    settled-by (λ (o : Ticking). Counts (l .tries) (calledBy (o .answer)) (o .modes .tries)) (verdict (tickTests l time))
+    settled-by (λ (o : TickStep). Counts (l .tries) (calledBy (o .answer)) (o .modes .tries)) (verdict (tickTests l time))
     (λ r e. none-called (l .tries))
     (λ e.
     tick-cases (λ t n. Counts (l .tries) (calledBy t) (n .tries)) l time

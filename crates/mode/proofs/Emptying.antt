@@ -11,14 +11,14 @@ use Rattle.ground.proofs.Settled.{settled-by}
 use Rattle.mode.specs.declared.Modes.{Modes}
 use Rattle.mode.specs.declared.Channels.{Channels}
 use Rattle.mode.specs.declared.Channels.the-variants.{Stay, Fresh, Emptied}
-use Rattle.mode.specs.declared.Hearing.{Hearing}
-use Rattle.mode.specs.declared.Asking.{Asking}
-use Rattle.mode.specs.declared.Ticking.{Ticking}
+use Rattle.mode.specs.declared.HearStep.{HearStep}
+use Rattle.mode.specs.declared.AskStep.{AskStep}
+use Rattle.mode.specs.declared.TickStep.{TickStep}
 use Rattle.mode.specs.Given.{modem}
 use Rattle.mode.specs.Moved.{channelsFor, moved, trying}
-use Rattle.mode.specs.Indication.{hearTests, heardMode, hearing}
-use Rattle.mode.specs.Request.{askTests, asking}
-use Rattle.mode.specs.Recovery.{tickTests, ticking}
+use Rattle.mode.specs.Indication.{hearTests, heardMode, hearStep}
+use Rattle.mode.specs.Request.{askTests, askStep}
+use Rattle.mode.specs.Recovery.{tickTests, tickStep}
 use Rattle.mode.specs.Acts.{Act, hear, ask, tick, outcome, after}
 use Rattle.mode.proofs.Steps.{heard-by}
 
@@ -66,16 +66,16 @@ module _ (s s' : ℕ) where
 
 -- THE PROMISE: every call's word on the channels goes by the local mode before and after it, and by nothing else
 pub by-local : (l : Modes) (act : Act) → outcome l act .channels ≡ channelsFor (l .local) (after l act .local)
-unfolding hearing asking ticking moved trying
+unfolding hearStep askStep tickStep moved trying
 by-local l (hear k time) =
-    settled-by (λ (o : Hearing). o .channels ≡ channelsFor (l .local) (o .modes .local)) (verdict (hearTests l k time))
+    settled-by (λ (o : HearStep). o .channels ≡ channelsFor (l .local) (o .modes .local)) (verdict (hearTests l k time))
     (λ r e. sym (same-stays (l .local)))
     (λ e. heard-by (λ n. channelsFor (l .local) (heardMode l k) ≡ channelsFor (l .local) (n .local)) l k time (λ a b. refl) (λ a. refl))
 by-local l (ask k time) =
-    settled-by (λ (o : Asking). o .channels ≡ channelsFor (l .local) (o .modes .local)) (verdict (askTests l k time))
+    settled-by (λ (o : AskStep). o .channels ≡ channelsFor (l .local) (o .modes .local)) (verdict (askTests l k time))
     (λ r e. sym (same-stays (l .local)))
     (λ e. refl)
 by-local l (tick time) =
-    settled-by (λ (o : Ticking). o .channels ≡ channelsFor (l .local) (o .modes .local)) (verdict (tickTests l time))
+    settled-by (λ (o : TickStep). o .channels ≡ channelsFor (l .local) (o .modes .local)) (verdict (tickTests l time))
     (λ r e. sym (same-stays (l .local)))
     (λ e. refl)

@@ -9,8 +9,8 @@ use Rattle.ground.specs.declared.Refusal.the-variants.{RECOVERY}
 use Rattle.mode.specs.declared.Modes.{Modes}
 use Rattle.mode.specs.declared.Channels.the-variants.{Stay}
 use Rattle.mode.specs.Moved.{stayed}
-use Rattle.mode.specs.Indication.{hearing}
-use Rattle.mode.specs.Request.{asking}
+use Rattle.mode.specs.Indication.{hearStep}
+use Rattle.mode.specs.Request.{askStep}
 use Rattle.ground.specs.Answer.{refused}
 use Rattle.mode.specs.Acts.{Act, hear, ask, outcome, after, run}
 use Rattle.mode.proofs.Steps.{hears, asks, moved-same, after-by, run-keeps, ticked-by}
@@ -18,11 +18,11 @@ use Rattle.mode.proofs.Steps.{hears, asks, moved-same, after-by, run-ke
 -- "request or indication once ended" is RECOVERY, whatever mode it names, and changes nothing
 module _ (l : Modes) (k time : ℕ) (t : l .last ≤ time) (over : 5 < l .tries) where
   pub indication-refused : outcome l (hear k time) ≡ record { said = refused RECOVERY; modes = l; channels = Stay }
-  unfolding hearing
+  unfolding hearStep
   indication-refused = rw (le-leb (l .last) time t, lt-ltb 5 (l .tries) over)
 
   pub request-refused : outcome l (ask k time) ≡ record { said = refused RECOVERY; modes = l; channels = Stay }
-  unfolding asking
+  unfolding askStep
   request-refused = rw (le-leb (l .last) time t, ne-eqb (l .tries) 0 (λ z. omega arith))
 
 -- nothing but the time differs from what l was

@@ -9,11 +9,11 @@ use Rattle.ground.specs.Refusal.{verdict}
 use Rattle.ground.specs.declared.Verdict.the-variants.{Pass}
 use Rattle.ground.proofs.Settled.{settled-took}
 use Rattle.mode.specs.declared.Modes.{Modes}
-use Rattle.mode.specs.declared.Hearing.{Hearing}
-use Rattle.mode.specs.declared.Asking.{Asking}
+use Rattle.mode.specs.declared.HearStep.{HearStep}
+use Rattle.mode.specs.declared.AskStep.{AskStep}
 use Rattle.mode.specs.Moved.{moved}
-use Rattle.mode.specs.Indication.{hearTests, notice, hearing}
-use Rattle.mode.specs.Request.{askTests, asking}
+use Rattle.mode.specs.Indication.{hearTests, notice, hearStep}
+use Rattle.mode.specs.Request.{askTests, askStep}
 use Rattle.mode.specs.Generation.{localChanged, remoteChanged, wasAnswer, indicationDue}
 use Rattle.mode.specs.Acts.{hear, ask, after}
 use Rattle.mode.proofs.Answers.{heard-remote}
@@ -35,9 +35,9 @@ due-without l n h = rw h (without-notice (localChanged l n) (eqb (n .local) (n .
 
 module _ (l : Modes) (k time : ℕ) (e : verdict (hearTests l k time) ≡ Pass) where
   noticed : remoteChanged l (after l (hear k time)) ≡ notice l k
-  unfolding hearing
+  unfolding hearStep
   noticed =
-      settled-took (λ (o : Hearing). remoteChanged l (o .modes) ≡ notice l k) (verdict (hearTests l k time)) _ e
+      settled-took (λ (o : HearStep). remoteChanged l (o .modes) ≡ notice l k) (verdict (hearTests l k time)) _ e
       (ap (λ (n : ℕ). not (eqb n (l .remote))) (heard-remote l k time))
 
   -- where a notice is to be sent C.5.3.1 asks for an SSE too, but for its exception
@@ -50,7 +50,7 @@ module _ (l : Modes) (k time : ℕ) (e : verdict (hearTests l k time) ≡ Pass) 
 
 -- after a request C.5.3.1 asks for an SSE exactly if S changed
 pub request-due : (l : Modes) (k time : ℕ) → verdict (askTests l k time) ≡ Pass → indicationDue l (after l (ask k time)) ≡ not (eqb k (l .local))
-unfolding asking moved
+unfolding askStep moved
 request-due l k time e =
-    settled-took (λ (o : Asking). indicationDue l (o .modes) ≡ not (eqb k (l .local))) (verdict (askTests l k time)) _ e
+    settled-took (λ (o : AskStep). indicationDue l (o .modes) ≡ not (eqb k (l .local))) (verdict (askTests l k time)) _ e
     (rw (eq-eqb (l .remote) (l .remote) refl) (without-notice (not (eqb k (l .local))) (eqb k (l .remote))))

@@ -11,7 +11,7 @@ use Rattle.ground.proofs.Picks.{pick-by}
 use Rattle.mode.specs.declared.Modes.{Modes}
 use Rattle.mode.specs.Given.{audio, voiceband, given}
 use Rattle.mode.specs.Moved.{moved, trying}
-use Rattle.mode.specs.Indication.{hearTests, heardMode, hearing}
+use Rattle.mode.specs.Indication.{hearTests, heardMode, hearStep}
 use Rattle.mode.specs.TableC2.{permitted}
 use Rattle.mode.proofs.Givens.{given-by}
 use Rattle.mode.proofs.Steps.{hears, heard-by}
@@ -45,8 +45,8 @@ unfolding heardMode
 heard-permitted l k a b = pick-by (λ s. permitted k s ≡ true) (eqb (l .tries) 0) (λ e. given-permitted l k a b) (λ e. audio-permitted k a b)
 
 -- THE PROMISE: where an indication is accepted, Table C.2 permits the local mode that it leaves the line in
-pub indication-permitted : (l : Modes) (k time : ℕ) → verdict (hearTests l k time) ≡ Pass → permitted k (hearing l k time .modes .local) ≡ true
-unfolding hearing moved trying
+pub indication-permitted : (l : Modes) (k time : ℕ) → verdict (hearTests l k time) ≡ Pass → permitted k (hearStep l k time .modes .local) ≡ true
+unfolding hearStep moved trying
 indication-permitted l k time e =
     let h = hears l k time e in
     rw e (heard-by (λ n. permitted k (n .local) ≡ true) l k time (λ t a. heard-permitted l k (h .known) (h .served)) (λ t. heard-permitted l k (h .known) (h .served)))

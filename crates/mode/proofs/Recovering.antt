@@ -12,8 +12,8 @@ use Rattle.mode.specs.declared.Channels.{Channels}
 use Rattle.mode.specs.declared.Channels.the-variants.{Stay}
 use Rattle.mode.specs.Given.{unknown, audio, text}
 use Rattle.mode.specs.Moved.{channelsFor, moved, trying, stayed, ended}
-use Rattle.mode.specs.Indication.{heardMode, heardModes, notice, hearing}
-use Rattle.mode.specs.Recovery.{due, differedLong, triedLong, tickedModes, tryDue, ticking}
+use Rattle.mode.specs.Indication.{heardMode, heardModes, notice, hearStep}
+use Rattle.mode.specs.Recovery.{due, differedLong, triedLong, tickedModes, tryDue, tickStep}
 use Rattle.ground.specs.Pick.{bit}
 use Rattle.ground.specs.Answer.{accepted}
 use Rattle.mode.specs.Acts.{hear, ask, tick, Outcome, outcome, after}
@@ -25,13 +25,13 @@ use Rattle.mode.proofs.Steps.{hear-by, ask-by, heard-by}
 abbrev gives : ℕ → Modes → Channels → Outcome
 gives n next channels = record { said = accepted (n ∷ []); modes = next; channels = channels }
 
-neither : (t : Bool) → (not t && false) ≡ false
-neither true = refl
-neither false = refl
+and-false : (t : Bool) → (not t && false) ≡ false
+and-false true = refl
+and-false false = refl
 
 module _ (l : Modes) (time : ℕ) (t : l .last ≤ time) where
   ticked : outcome l (tick time) ≡ gives (tryDue l time) (tickedModes l time) (channelsFor (l .local) (tickedModes l time .local))
-  unfolding ticking
+  unfolding tickStep
   ticked = rw (le-leb (l .last) time t) (λ i. record { said = answer-says l time i; modes = tickedModes l time; channels = channelsFor (l .local) (tickedModes l time .local) })
 
   -- what a tick gives once its try and its modes are known; where S does not move, the channels stay
@@ -68,7 +68,7 @@ module _ (l : Modes) (time : ℕ) (t : l .last ≤ time) where
     modes-agree a = quiet (omega arith) (calm ∙ rw (eq-eqb (l .local) (l .remote) a))
 
     pub not-yet : time - l .since ≤ 1000 → outcome l (tick time) ≡ gives 0 (stayed l time) Stay
-    not-yet w = quiet (omega arith) (calm ∙ rw (le-ltb 1000 (time - l .since) w) (neither (eqb (l .local) (l .remote))))
+    not-yet w = quiet (omega arith) (calm ∙ rw (le-ltb 1000 (time - l .since) w) (and-false (eqb (l .local) (l .remote))))
 
   -- in recovery
   module _ (some : 0 < l .tries) where
@@ -125,7 +125,7 @@ module _ (l : Modes) (time : ℕ) (t : l .last ≤ time) (some : 0 < l .tries) (
 
   recorded : (k : ℕ) (next : Modes) → audio ≤ k → k ≤ text → heardModes l k time ≡ next →
       outcome l (hear k time) ≡ record { said = accepted (audio ∷ bit (notice l k) ∷ []); modes = next; channels = channelsFor (l .local) audio }
-  unfolding hearing
+  unfolding hearStep
   recorded k next a b m =
       rw (le-leb (l .last) time t, le-ltb 5 (l .tries) running, le-leb audio k a, le-leb k text b)
       (λ i. record { said = accepted (stays-audio k i ∷ bit (notice l k) ∷ []); modes = m i; channels = channelsFor (l .local) (stays-audio k i) })

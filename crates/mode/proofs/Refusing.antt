@@ -9,15 +9,15 @@ use Rattle.ground.proofs.Numbers.{number-some}
 use Rattle.ground.proofs.Settled.{settled-by}
 use Rattle.mode.specs.declared.Modes.{Modes}
 use Rattle.mode.specs.declared.Channels.the-variants.{Stay}
-use Rattle.mode.specs.declared.Hearing.{Hearing}
-use Rattle.mode.specs.declared.Asking.{Asking}
-use Rattle.mode.specs.declared.Ticking.{Ticking}
+use Rattle.mode.specs.declared.HearStep.{HearStep}
+use Rattle.mode.specs.declared.AskStep.{AskStep}
+use Rattle.mode.specs.declared.TickStep.{TickStep}
 use Rattle.mode.specs.Moved.{moved, trying}
-use Rattle.mode.specs.Indication.{hearTests, heardModes, hearing}
-use Rattle.mode.specs.Request.{askTests, asking}
-use Rattle.mode.specs.Recovery.{tickTests, tickedModes, ticking}
+use Rattle.mode.specs.Indication.{hearTests, heardModes, hearStep}
+use Rattle.mode.specs.Request.{askTests, askStep}
+use Rattle.mode.specs.Recovery.{tickTests, tickedModes, tickStep}
 use Rattle.ground.specs.Answer.{Answer}
-use Rattle.mode.specs.Says.{heardSays, askedSays, tickedSays}
+use Rattle.mode.specs.Says.{hearSays, askSays, tickSays}
 use Rattle.mode.specs.Acts.{Act, hear, ask, tick, Outcome, outcome, after, timeOf}
 use Rattle.mode.proofs.Steps.{heard-by, ticked-by}
 use Rattle.mode.proofs.Tries.{answer-says}
@@ -47,19 +47,19 @@ unfolding moved trying
 ticked-last l time = ticked-by (λ n. n .last ≡ time) l time refl (λ a b c. refl) (λ a b c. refl) (λ a b. refl)
 
 settles : (l : Modes) (act : Act) → Settles l (timeOf act) (outcome l act)
-unfolding hearing asking ticking moved
+unfolding hearStep askStep tickStep moved
 settles l (hear k time) =
-    settled-by (λ (h : Hearing). Settles l time (record { said = heardSays (h .answer); modes = h .modes; channels = h .channels }))
+    settled-by (λ (h : HearStep). Settles l time (record { said = hearSays (h .answer); modes = h .modes; channels = h .channels }))
     (verdict (hearTests l k time))
     (λ r e. refused-settles l time _ (record { modes = refl; channels = refl; alone = refl }) (number-some r))
     (λ e. accepted-settles l time _ refl (heard-last l k time))
 settles l (ask k time) =
-    settled-by (λ (a : Asking). Settles l time (record { said = askedSays (a .answer); modes = a .modes; channels = a .channels }))
+    settled-by (λ (a : AskStep). Settles l time (record { said = askSays (a .answer); modes = a .modes; channels = a .channels }))
     (verdict (askTests l k time))
     (λ r e. refused-settles l time _ (record { modes = refl; channels = refl; alone = refl }) (number-some r))
     (λ e. accepted-settles l time _ refl refl)
 settles l (tick time) =
-    settled-by (λ (t : Ticking). Settles l time (record { said = tickedSays (t .answer); modes = t .modes; channels = t .channels }))
+    settled-by (λ (t : TickStep). Settles l time (record { said = tickSays (t .answer); modes = t .modes; channels = t .channels }))
     (verdict (tickTests l time))
     (λ r e. refused-settles l time _ (record { modes = refl; channels = refl; alone = refl }) (number-some r))
     (λ e. accepted-settles l time _ (ap (λ (s : Answer). s .number) (answer-says l time)) (ticked-last l time))

@@ -15,33 +15,33 @@ use Rattle.ground.proofs.Picks.{pick-by, both-true, clash}
 use Rattle.ground.proofs.Settled.{settled-by}
 use Rattle.ground.proofs.Verdicts.{passed}
 use Rattle.mode.specs.declared.Modes.{Modes}
-use Rattle.mode.specs.declared.Ticked.{Ticked}
-use Rattle.mode.specs.declared.Ticked.the-variants.{Quiet, Audio, Ended}
-use Rattle.mode.specs.declared.Hearing.{Hearing}
-use Rattle.mode.specs.declared.Asking.{Asking}
-use Rattle.mode.specs.declared.Ticking.{Ticking}
+use Rattle.mode.specs.declared.TickAnswer.{TickAnswer}
+use Rattle.mode.specs.declared.TickAnswer.the-variants.{Quiet, Audio, Ended}
+use Rattle.mode.specs.declared.HearStep.{HearStep}
+use Rattle.mode.specs.declared.AskStep.{AskStep}
+use Rattle.mode.specs.declared.TickStep.{TickStep}
 use Rattle.mode.specs.Given.{unknown, audio, modem, text, offered}
 use Rattle.mode.specs.Moved.{timed, moved, trying, stayed, ended}
-use Rattle.mode.specs.Indication.{hearTests, heardMode, heardModes, hearing}
-use Rattle.mode.specs.Request.{askTests, asking}
-use Rattle.mode.specs.Recovery.{tickTests, due, tickedModes, tickedAnswer, ticking}
+use Rattle.mode.specs.Indication.{hearTests, heardMode, heardModes, hearStep}
+use Rattle.mode.specs.Request.{askTests, askStep}
+use Rattle.mode.specs.Recovery.{tickTests, due, tickedModes, tickedAnswer, tickStep}
 use Rattle.mode.proofs.Tries.{ended-rests, due-first, due-next}
 use Rattle.mode.specs.Acts.{Act, hear, ask, tick, after, run}
 
 -- what an accepted indication, request or tick has shown
-pub record Hears (l : Modes) (k time : ℕ) : Type 0 where
+pub record Heard (l : Modes) (k time : ℕ) : Type 0 where
   pub inTime : l .last ≤ time
   pub running : l .tries ≤ 5
   pub known : audio ≤ k
   pub served : k ≤ text
 
-pub record Asks (l : Modes) (k time : ℕ) : Type 0 where
+pub record Asked (l : Modes) (k time : ℕ) : Type 0 where
   pub inTime : l .last ≤ time
   pub calm : l .tries ≡ 0
   pub offers : offered l k ≡ true
   pub fresh : (eqb k modem && l .left) ≡ false
 
-pub hears : (l : Modes) (k time : ℕ) → verdict (hearTests l k time) ≡ Pass → Hears l k time
+pub hears : (l : Modes) (k time : ℕ) → verdict (hearTests l k time) ≡ Pass → Heard l k time
 hears l k time e =
     let h = passed (hearTests l k time) e in
     let b = both-true _ _ (h .1 .1 .0) in
@@ -52,7 +52,7 @@ hears l k time e =
       served = leb-true _ _ (b .1);
     }
 
-pub asks : (l : Modes) (k time : ℕ) → verdict (askTests l k time) ≡ Pass → Asks l k time
+pub asks : (l : Modes) (k time : ℕ) → verdict (askTests l k time) ≡ Pass → Asked l k time
 asks l k time e =
     let h = passed (askTests l k time) e in
     record {
@@ -93,17 +93,17 @@ moved-same l time =
 
 -- what holds of the record as it was, and of what a call makes of it once its tests pass, holds after the call
 module _ (P : Modes → Type 0) (l : Modes) (same : P l) where
-  pub hear-by : (k time : ℕ) → (verdict (hearTests l k time) ≡ Pass → P (heardModes l k time)) → P (hearing l k time .modes)
-  unfolding hearing
-  hear-by k time heard = settled-by (λ (o : Hearing). P (o .modes)) (verdict (hearTests l k time)) (λ r e. same) heard
+  pub hear-by : (k time : ℕ) → (verdict (hearTests l k time) ≡ Pass → P (heardModes l k time)) → P (hearStep l k time .modes)
+  unfolding hearStep
+  hear-by k time heard = settled-by (λ (o : HearStep). P (o .modes)) (verdict (hearTests l k time)) (λ r e. same) heard
 
-  pub ask-by : (k time : ℕ) → (verdict (askTests l k time) ≡ Pass → P (moved l k (l .remote) time)) → P (asking l k time .modes)
-  unfolding asking
-  ask-by k time asked = settled-by (λ (o : Asking). P (o .modes)) (verdict (askTests l k time)) (λ r e. same) asked
+  pub ask-by : (k time : ℕ) → (verdict (askTests l k time) ≡ Pass → P (moved l k (l .remote) time)) → P (askStep l k time .modes)
+  unfolding askStep
+  ask-by k time asked = settled-by (λ (o : AskStep). P (o .modes)) (verdict (askTests l k time)) (λ r e. same) asked
 
-  pub tick-by : (time : ℕ) → (verdict (tickTests l time) ≡ Pass → P (tickedModes l time)) → P (ticking l time .modes)
-  unfolding ticking
-  tick-by time ticked = settled-by (λ (o : Ticking). P (o .modes)) (verdict (tickTests l time)) (λ r e. same) ticked
+  pub tick-by : (time : ℕ) → (verdict (tickTests l time) ≡ Pass → P (tickedModes l time)) → P (tickStep l time .modes)
+  unfolding tickStep
+  tick-by time ticked = settled-by (λ (o : TickStep). P (o .modes)) (verdict (tickTests l time)) (λ r e. same) ticked
 
   pub after-by :
       ((k time : ℕ) → verdict (hearTests l k time) ≡ Pass → P (heardModes l k time)) →
@@ -132,7 +132,7 @@ heard-by P l k time ends stays =
     (λ t. stays (λ h e. clash (sym (rw (lt-ltb 0 (l .tries) h, eq-eqb k audio e) at t))))
 
 -- a tick does nothing, says that the line has ended, begins recovery, tries once more, or ends the line; each with its answer
-module _ (P : Ticked → Modes → Type 0) (l : Modes) (time : ℕ)
+module _ (P : TickAnswer → Modes → Type 0) (l : Modes) (time : ℕ)
     (quiet : due l time ≡ false → l .tries ≤ 5 → P Quiet (moved l (l .local) (l .remote) time))
     (over : 5 < l .tries → P Ended (moved l (l .local) (l .remote) time))
     (first : l .tries ≡ 0 → (l .local ≡ l .remote → ⊥) → 1000 < time - l .since → P (Audio 1) (trying (moved l audio unknown time) 1 time))

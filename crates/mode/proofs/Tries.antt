@@ -9,11 +9,11 @@ use borrow.Author.Tests.{eqb-true, eqb-false, ltb-true, ltb-false, leb-true, not
 use Rattle.ground.specs.Pick.{pick}
 use Rattle.ground.proofs.Picks.{both-true, pick-by}
 use Rattle.mode.specs.declared.Modes.{Modes}
-use Rattle.mode.specs.declared.Ticked.the-variants.{Quiet, Audio, Ended}
+use Rattle.mode.specs.declared.TickAnswer.the-variants.{Quiet, Audio, Ended}
 use Rattle.mode.specs.Moved.{ended}
 use Rattle.mode.specs.Recovery.{due, differedLong, triedLong, tickedAnswer, tryDue}
 use Rattle.ground.specs.Answer.{accepted}
-use Rattle.mode.specs.Says.{tickedSays}
+use Rattle.mode.specs.Says.{tickSays}
 
 -- a line where a try, or the end, is due has not ended: its count of tries can go up by one
 pub due-tries : (l : Modes) (time : ℕ) → due l time ≡ true → l .tries ≤ 5
@@ -43,15 +43,15 @@ due-next l time e n =
     leb-true _ _ w
 
 -- what follows try 5 is said as 6
-last-says : (n : ℕ) → tickedSays (pick (eqb n 5) Ended (Audio (n + 1))) ≡ accepted ((n + 1) ∷ [])
-last-says n = pick-by (λ t. tickedSays t ≡ accepted ((n + 1) ∷ [])) (eqb n 5) (λ e. rw (eqb-true n 5 e)) (λ e. refl)
+last-says : (n : ℕ) → tickSays (pick (eqb n 5) Ended (Audio (n + 1))) ≡ accepted ((n + 1) ∷ [])
+last-says n = pick-by (λ t. tickSays t ≡ accepted ((n + 1) ∷ [])) (eqb n 5) (λ e. rw (eqb-true n 5 e)) (λ e. refl)
 
-by-tests : (over more : Bool) (n : ℕ) → tickedSays (pick over Ended (pick more (pick (eqb n 5) Ended (Audio (n + 1))) Quiet)) ≡ accepted (pick over 6 (pick more (n + 1) 0) ∷ [])
+by-tests : (over more : Bool) (n : ℕ) → tickSays (pick over Ended (pick more (pick (eqb n 5) Ended (Audio (n + 1))) Quiet)) ≡ accepted (pick over 6 (pick more (n + 1) 0) ∷ [])
 by-tests true more n = refl
 by-tests false true n = last-says n
 by-tests false false n = refl
 
 -- a tick's answer in numbers
-pub answer-says : (l : Modes) (time : ℕ) → tickedSays (tickedAnswer l time) ≡ accepted (tryDue l time ∷ [])
+pub answer-says : (l : Modes) (time : ℕ) → tickSays (tickedAnswer l time) ≡ accepted (tryDue l time ∷ [])
 unfolding tickedAnswer
 answer-says l time = by-tests (ended l) (due l time) (l .tries)

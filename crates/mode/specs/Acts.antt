@@ -5,14 +5,14 @@ use mathlib.Core.Path.{_≡_}
 use mathlib.Core.List.{List, [], _∷_, _++_}
 use Rattle.mode.specs.declared.Modes.{Modes}
 use Rattle.mode.specs.declared.Channels.{Channels}
-use Rattle.mode.specs.declared.Ticked.{Ticked}
-use Rattle.mode.specs.declared.Ticked.the-variants.{Quiet, Audio, Ended, Refused}
+use Rattle.mode.specs.declared.TickAnswer.{TickAnswer}
+use Rattle.mode.specs.declared.TickAnswer.the-variants.{Quiet, Audio, Ended, Refused}
 use Rattle.mode.specs.Given.{audio}
-use Rattle.mode.specs.Indication.{hearing}
-use Rattle.mode.specs.Request.{asking}
-use Rattle.mode.specs.Recovery.{ticking}
+use Rattle.mode.specs.Indication.{hearStep}
+use Rattle.mode.specs.Request.{askStep}
+use Rattle.mode.specs.Recovery.{tickStep}
 use Rattle.ground.specs.Answer.{Answer}
-use Rattle.mode.specs.Says.{heardSays, askedSays, tickedSays}
+use Rattle.mode.specs.Says.{hearSays, askSays, tickSays}
 
 -- a mode call with its arguments, whatever they are
 pub data Act : Type 0 where
@@ -28,14 +28,14 @@ pub record Outcome : Type 0 where
 
 abbrev pub outcome : Modes → Act → Outcome
 outcome l (hear mode time) =
-    let o = hearing l mode time in
-    record { said = heardSays (o .answer); modes = o .modes; channels = o .channels }
+    let o = hearStep l mode time in
+    record { said = hearSays (o .answer); modes = o .modes; channels = o .channels }
 outcome l (ask mode time) =
-    let o = asking l mode time in
-    record { said = askedSays (o .answer); modes = o .modes; channels = o .channels }
+    let o = askStep l mode time in
+    record { said = askSays (o .answer); modes = o .modes; channels = o .channels }
 outcome l (tick time) =
-    let o = ticking l time in
-    record { said = tickedSays (o .answer); modes = o .modes; channels = o .channels }
+    let o = tickStep l time in
+    record { said = tickSays (o .answer); modes = o .modes; channels = o .channels }
 
 -- the modes after one call, and after several
 abbrev pub after : Modes → Act → Modes
@@ -52,7 +52,7 @@ timeOf (ask mode time) = time
 timeOf (tick time) = time
 
 -- the audio indications that a call calls for, each by its try
-abbrev pub calledBy : Ticked → List ℕ
+abbrev pub calledBy : TickAnswer → List ℕ
 calledBy Quiet = []
 calledBy (Audio n) = n ∷ []
 calledBy Ended = []
@@ -61,7 +61,7 @@ calledBy (Refused r) = []
 abbrev pub called : Modes → Act → List ℕ
 called l (hear mode time) = []
 called l (ask mode time) = []
-called l (tick time) = calledBy (ticking l time .answer)
+called l (tick time) = calledBy (tickStep l time .answer)
 
 -- and those that several calls call for, in order
 unfoldable pub calledIn : Modes → List Act → List ℕ

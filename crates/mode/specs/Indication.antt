@@ -10,8 +10,8 @@ use Rattle.ground.specs.Refusal.{Test, must, verdict, settle}
 use Rattle.ground.specs.declared.Refusal.the-variants.{RANGE, RECOVERY}
 use Rattle.mode.specs.declared.Modes.{Modes}
 use Rattle.mode.specs.declared.Channels.the-variants.{Stay}
-use Rattle.mode.specs.declared.Heard.the-variants.{Mode, Refused}
-use Rattle.mode.specs.declared.Hearing.{Hearing}
+use Rattle.mode.specs.declared.HearAnswer.the-variants.{Mode, Refused}
+use Rattle.mode.specs.declared.HearStep.{HearStep}
 use Rattle.mode.specs.Given.{audio, text, given}
 use Rattle.mode.specs.Moved.{channelsFor, moved, trying, inTime, ended}
 
@@ -40,8 +40,8 @@ abbrev pub notice : Modes → ℕ → Bool
 notice l k = not (eqb k (l .remote))
 
 -- the call: the first refusal that holds, with nothing changed; else "The answer says S", and the notice
-unfoldable pub hearing : Modes → ℕ → ℕ → Hearing
-hearing l k time =
+unfoldable pub hearStep : Modes → ℕ → ℕ → HearStep
+hearStep l k time =
     settle (verdict (hearTests l k time))
     (λ r. record { answer = Refused r; modes = l; channels = Stay })
     (record { answer = Mode (heardMode l k) (notice l k); modes = heardModes l k time; channels = channelsFor (l .local) (heardMode l k) })

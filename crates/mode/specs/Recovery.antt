@@ -8,9 +8,9 @@ use Rattle.ground.specs.Pick.{pick}
 use Rattle.ground.specs.Refusal.{Test, verdict, settle}
 use Rattle.mode.specs.declared.Modes.{Modes}
 use Rattle.mode.specs.declared.Channels.the-variants.{Stay}
-use Rattle.mode.specs.declared.Ticked.{Ticked}
-use Rattle.mode.specs.declared.Ticked.the-variants.{Quiet, Audio, Ended, Refused}
-use Rattle.mode.specs.declared.Ticking.{Ticking}
+use Rattle.mode.specs.declared.TickAnswer.{TickAnswer}
+use Rattle.mode.specs.declared.TickAnswer.the-variants.{Quiet, Audio, Ended, Refused}
+use Rattle.mode.specs.declared.TickStep.{TickStep}
 use Rattle.mode.specs.Given.{unknown, audio}
 use Rattle.mode.specs.Moved.{channelsFor, moved, trying, stayed, lastTry, over, inTime, ended}
 
@@ -40,7 +40,7 @@ tickedModes l time =
     (stayed l time)
 
 -- the same in words; "A tick on an ended line says ended again"
-unfoldable pub tickedAnswer : Modes → ℕ → Ticked
+unfoldable pub tickedAnswer : Modes → ℕ → TickAnswer
 tickedAnswer l time =
     pick (ended l) Ended
     (pick (due l time)
@@ -52,8 +52,8 @@ abbrev pub tryDue : Modes → ℕ → ℕ
 tryDue l time = pick (ended l) over (pick (due l time) (l .tries + 1) 0)
 
 -- the call: CLOCK, with nothing changed; else what the tick finds
-unfoldable pub ticking : Modes → ℕ → Ticking
-ticking l time =
+unfoldable pub tickStep : Modes → ℕ → TickStep
+tickStep l time =
     settle (verdict (tickTests l time))
     (λ r. record { answer = Refused r; modes = l; channels = Stay })
     (record { answer = tickedAnswer l time; modes = tickedModes l time; channels = channelsFor (l .local) (tickedModes l time .local) })

@@ -8,8 +8,8 @@ use Rattle.ground.specs.Refusal.{Test, must, verdict, settle}
 use Rattle.ground.specs.declared.Refusal.the-variants.{MODE, RANGE, RECOVERY}
 use Rattle.mode.specs.declared.Modes.{Modes}
 use Rattle.mode.specs.declared.Channels.the-variants.{Stay}
-use Rattle.mode.specs.declared.Asked.the-variants.{Mode, Refused}
-use Rattle.mode.specs.declared.Asking.{Asking}
+use Rattle.mode.specs.declared.AskAnswer.the-variants.{Mode, Refused}
+use Rattle.mode.specs.declared.AskStep.{AskStep}
 use Rattle.mode.specs.Given.{modem, offered}
 use Rattle.mode.specs.Moved.{channelsFor, moved, inTime}
 
@@ -25,8 +25,8 @@ askTests l k time =
     ∷ []
 
 -- the call: the first refusal that holds, with nothing changed; else S is the mode named
-unfoldable pub asking : Modes → ℕ → ℕ → Asking
-asking l k time =
+unfoldable pub askStep : Modes → ℕ → ℕ → AskStep
+askStep l k time =
     settle (verdict (askTests l k time))
     (λ r. record { answer = Refused r; modes = l; channels = Stay })
     (record { answer = Mode k; modes = moved l k (l .remote) time; channels = channelsFor (l .local) k })

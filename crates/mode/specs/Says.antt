@@ -6,29 +6,29 @@ use Rattle.ground.specs.Pick.{bit}
 use Rattle.ground.specs.Refusal.{settle}
 use Rattle.ground.specs.Answer.{Answer, accepted, refused}
 use Rattle.ground.specs.declared.Verdict.{Verdict}
-use Rattle.mode.specs.declared.Heard.{Heard}
-use Rattle.mode.specs.declared.Heard.the-variants as heard
-use Rattle.mode.specs.declared.Asked.{Asked}
-use Rattle.mode.specs.declared.Asked.the-variants as asked
-use Rattle.mode.specs.declared.Ticked.{Ticked}
-use Rattle.mode.specs.declared.Ticked.the-variants as ticked
+use Rattle.mode.specs.declared.HearAnswer.{HearAnswer}
+use Rattle.mode.specs.declared.HearAnswer.the-variants as heard
+use Rattle.mode.specs.declared.AskAnswer.{AskAnswer}
+use Rattle.mode.specs.declared.AskAnswer.the-variants as asked
+use Rattle.mode.specs.declared.TickAnswer.{TickAnswer}
+use Rattle.mode.specs.declared.TickAnswer.the-variants as ticked
 
 -- S, and 1 where a P' notice is to be sent
-abbrev pub heardSays : Heard → Answer
-heardSays (heard.Mode s n) = accepted (s ∷ bit n ∷ [])
-heardSays (heard.Refused r) = refused r
+abbrev pub hearSays : HearAnswer → Answer
+hearSays (heard.Mode s n) = accepted (s ∷ bit n ∷ [])
+hearSays (heard.Refused r) = refused r
 
 -- S
-abbrev pub askedSays : Asked → Answer
-askedSays (asked.Mode s) = accepted (s ∷ [])
-askedSays (asked.Refused r) = refused r
+abbrev pub askSays : AskAnswer → Answer
+askSays (asked.Mode s) = accepted (s ∷ [])
+askSays (asked.Refused r) = refused r
 
 -- 0 nothing due, 1 to 5 the try of the audio indication due, 6 ended
-abbrev pub tickedSays : Ticked → Answer
-tickedSays ticked.Quiet = accepted (0 ∷ [])
-tickedSays (ticked.Audio n) = accepted (n ∷ [])
-tickedSays ticked.Ended = accepted (6 ∷ [])
-tickedSays (ticked.Refused r) = refused r
+abbrev pub tickSays : TickAnswer → Answer
+tickSays ticked.Quiet = accepted (0 ∷ [])
+tickSays (ticked.Audio n) = accepted (n ∷ [])
+tickSays ticked.Ended = accepted (6 ∷ [])
+tickSays (ticked.Refused r) = refused r
 
 -- what is said by a verdict: the refusal of the first test that fails, else the values
 abbrev pub says : Verdict → List ℕ → Answer

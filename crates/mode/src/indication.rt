@@ -4,12 +4,12 @@ ghost use mathlib.Core.Path.{_≡_};
 ghost use mathlib.Core.List.{[], _∷_};
 ghost use Rattle.ground.specs.Refusal.{verdict};
 ghost use Rattle.mode.specs.Given.{asVoiceband, asModem, faxOrText, given};
-ghost use Rattle.mode.specs.Indication.{hearTests, heardMode, heardModes, notice, hearing};
+ghost use Rattle.mode.specs.Indication.{hearTests, heardMode, heardModes, notice, hearStep};
 ghost use Rattle.ground.specs.Pick.{bit};
-ghost use Rattle.mode.specs.Says.{heardSays, says};
+ghost use Rattle.mode.specs.Says.{hearSays, says};
 use crate::Channels;
-use crate::Heard;
-use crate::Hearing;
+use crate::HearAnswer;
+use crate::HearStep;
 use crate::Modes;
 use crate::channels_for;
 use ground::Refusal;
@@ -100,26 +100,26 @@ fn heard_modes(modes: Modes, mode: u8, time: u64) -> Modes
 }
 
 // An indication of a mode is heard at a time.
-pub fn hear(modes: Modes, mode: u8, time: u64) -> Hearing
-    ensures { λ r. ⌜ r ≡ hearing modes mode time ⌝ }
-    ensures said { λ r. ⌜ heardSays (r .answer) ≡ says (verdict (hearTests modes mode time)) (heardMode modes mode ∷ bit (notice modes mode) ∷ []) ⌝ }
+pub fn hear(modes: Modes, mode: u8, time: u64) -> HearStep
+    ensures { λ r. ⌜ r ≡ hearStep modes mode time ⌝ }
+    ensures said { λ r. ⌜ hearSays (r .answer) ≡ says (verdict (hearTests modes mode time)) (heardMode modes mode ∷ bit (notice modes mode) ∷ []) ⌝ }
 {
     match hear_verdict(modes, mode, time) {
         Verdict::Pass => {
             let local = heard_mode(modes, mode);
-            let answer = Heard::Mode(local, mode != modes.remote);
+            let answer = HearAnswer::Mode(local, mode != modes.remote);
             let next = heard_modes(modes, mode, time);
             let channels = channels_for(modes.local, local);
-            Hearing {
+            HearStep {
                 answer,
                 modes: next,
                 channels,
             }
         }
         Verdict::Refuse(why) => {
-            let answer = Heard::Refused(why);
+            let answer = HearAnswer::Refused(why);
             let channels = Channels::Stay;
-            Hearing {
+            HearStep {
                 answer,
                 modes,
                 channels,

@@ -48,21 +48,21 @@ pub enum Channels {
 }
 
 // What an indication heard is answered.
-pub enum Heard {
+pub enum HearAnswer {
     // S, and whether a P' notice is to be sent.
     Mode(u8, bool),
     Refused(Refusal),
 }
 
 // What a local request is answered.
-pub enum Asked {
+pub enum AskAnswer {
     // S.
     Mode(u8),
     Refused(Refusal),
 }
 
 // What a tick is answered.
-pub enum Ticked {
+pub enum TickAnswer {
     // Nothing is due.
     Quiet,
     // An audio indication is due: that try, 1 to 5.
@@ -73,20 +73,20 @@ pub enum Ticked {
 }
 
 // A call's outcome: its answer, the next modes, and what becomes of the channels.
-pub struct Hearing {
-    pub answer: Heard,
+pub struct HearStep {
+    pub answer: HearAnswer,
     pub modes: Modes,
     pub channels: Channels,
 }
 
-pub struct Asking {
-    pub answer: Asked,
+pub struct AskStep {
+    pub answer: AskAnswer,
     pub modes: Modes,
     pub channels: Channels,
 }
 
-pub struct Ticking {
-    pub answer: Ticked,
+pub struct TickStep {
+    pub answer: TickAnswer,
     pub modes: Modes,
     pub channels: Channels,
 }
@@ -133,9 +133,9 @@ impl Modes {
     pub const TEXT: u8 = 5;
 
     // Recovery (C.5.4.1): T2, the difference that is borne; T1, from try to try; N, the tries; and the mark of an ended line.
-    pub const BORNE: u64 = 1000;
+    pub const T2: u64 = 1000;
 
-    pub const REPEAT: u64 = 1000;
+    pub const T1: u64 = 1000;
 
     pub const TRIES: u8 = 5;
 

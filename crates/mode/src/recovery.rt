@@ -4,12 +4,12 @@ ghost use mathlib.Core.Path.{_≡_};
 ghost use mathlib.Core.List.{[], _∷_};
 ghost use Prim.Native.Nat.{_-_};
 ghost use Rattle.ground.specs.Refusal.{verdict};
-ghost use Rattle.mode.specs.Recovery.{tickTests, due, tickedModes, tickedAnswer, tryDue, ticking};
-ghost use Rattle.mode.specs.Says.{tickedSays, says};
+ghost use Rattle.mode.specs.Recovery.{tickTests, due, tickedModes, tickedAnswer, tryDue, tickStep};
+ghost use Rattle.mode.specs.Says.{tickSays, says};
 use crate::Channels;
 use crate::Modes;
-use crate::Ticked;
-use crate::Ticking;
+use crate::TickAnswer;
+use crate::TickStep;
 use crate::channels_for;
 use ground::Refusal;
 use ground::Verdict;
@@ -39,9 +39,9 @@ fn due(modes: Modes, time: u64) -> bool
         return false;
     }
     if modes.tries == 0 {
-        (modes.local != modes.remote) & (Modes::BORNE < elapsed(modes.since, time))
+        (modes.local != modes.remote) & (Modes::T2 < elapsed(modes.since, time))
     } else {
-        Modes::REPEAT <= elapsed(modes.tried, time)
+        Modes::T1 <= elapsed(modes.tried, time)
     }
 }
 
@@ -65,42 +65,42 @@ fn ticked_modes(modes: Modes, time: u64) -> Modes
 }
 
 // What a tick answers.
-fn ticked_answer(modes: Modes, time: u64) -> Ticked
+fn ticked_answer(modes: Modes, time: u64) -> TickAnswer
     ensures { λ r. ⌜ r ≡ tickedAnswer modes time ⌝ }
 {
     if modes.ended() {
-        return Ticked::Ended;
+        return TickAnswer::Ended;
     }
     if due(modes, time) {} else {
-        return Ticked::Quiet;
+        return TickAnswer::Quiet;
     }
     let tries = modes.tries;
     if tries == Modes::TRIES {
-        return Ticked::Ended;
+        return TickAnswer::Ended;
     }
-    Ticked::Audio(tries + 1)
+    TickAnswer::Audio(tries + 1)
 }
 
 // A tick of the caller's clock.
-pub fn tick(modes: Modes, time: u64) -> Ticking
-    ensures { λ r. ⌜ r ≡ ticking modes time ⌝ }
-    ensures said { λ r. ⌜ tickedSays (r .answer) ≡ says (verdict (tickTests modes time)) (tryDue modes time ∷ []) ⌝ }
+pub fn tick(modes: Modes, time: u64) -> TickStep
+    ensures { λ r. ⌜ r ≡ tickStep modes time ⌝ }
+    ensures said { λ r. ⌜ tickSays (r .answer) ≡ says (verdict (tickTests modes time)) (tryDue modes time ∷ []) ⌝ }
 {
     match tick_verdict(modes, time) {
         Verdict::Pass => {
             let answer = ticked_answer(modes, time);
             let next = ticked_modes(modes, time);
             let channels = channels_for(modes.local, next.local);
-            Ticking {
+            TickStep {
                 answer,
                 modes: next,
                 channels,
             }
         }
         Verdict::Refuse(why) => {
-            let answer = Ticked::Refused(why);
+            let answer = TickAnswer::Refused(why);
             let channels = Channels::Stay;
-            Ticking {
+            TickStep {
                 answer,
                 modes,
                 channels,

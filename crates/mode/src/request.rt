@@ -4,10 +4,10 @@ ghost use mathlib.Core.Path.{_≡_};
 ghost use mathlib.Core.List.{[], _∷_};
 ghost use Rattle.ground.specs.Refusal.{verdict};
 ghost use Rattle.mode.specs.Given.{offered};
-ghost use Rattle.mode.specs.Request.{askTests, asking};
-ghost use Rattle.mode.specs.Says.{askedSays, says};
-use crate::Asked;
-use crate::Asking;
+ghost use Rattle.mode.specs.Request.{askTests, askStep};
+ghost use Rattle.mode.specs.Says.{askSays, says};
+use crate::AskAnswer;
+use crate::AskStep;
 use crate::Channels;
 use crate::Modes;
 use crate::channels_for;
@@ -43,25 +43,25 @@ fn ask_verdict(modes: Modes, mode: u8, time: u64) -> Verdict
 }
 
 // A mode is requested at a time, by the line's own side.
-pub fn ask(modes: Modes, mode: u8, time: u64) -> Asking
-    ensures { λ r. ⌜ r ≡ asking modes mode time ⌝ }
-    ensures said { λ r. ⌜ askedSays (r .answer) ≡ says (verdict (askTests modes mode time)) (mode ∷ []) ⌝ }
+pub fn ask(modes: Modes, mode: u8, time: u64) -> AskStep
+    ensures { λ r. ⌜ r ≡ askStep modes mode time ⌝ }
+    ensures said { λ r. ⌜ askSays (r .answer) ≡ says (verdict (askTests modes mode time)) (mode ∷ []) ⌝ }
 {
     match ask_verdict(modes, mode, time) {
         Verdict::Pass => {
-            let answer = Asked::Mode(mode);
+            let answer = AskAnswer::Mode(mode);
             let next = modes.moved(mode, modes.remote, time);
             let channels = channels_for(modes.local, mode);
-            Asking {
+            AskStep {
                 answer,
                 modes: next,
                 channels,
             }
         }
         Verdict::Refuse(why) => {
-            let answer = Asked::Refused(why);
+            let answer = AskAnswer::Refused(why);
             let channels = Channels::Stay;
-            Asking {
+            AskStep {
                 answer,
                 modes,
                 channels,

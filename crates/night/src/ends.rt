@@ -6,16 +6,16 @@ use crate::dice::Dice;
 use crate::tally;
 use crate::tally::Stream;
 use book::Book;
-use gateway::Arrived;
-use gateway::Report;
-use gateway::Taken;
-use ground::Written;
+use gateway::ArriveAnswer;
+use gateway::HeldAnswer;
+use gateway::TakeAnswer;
+use ground::WriteAnswer;
 
 // Counts a message that was taken.
-fn note_taken(tally: &mut [u64], stream: Stream, size: usize, answer: Taken) {
+fn note_taken(tally: &mut [u64], stream: Stream, size: usize, answer: TakeAnswer) {
     match answer {
-        Taken::Refused(_) => {}
-        Taken::Number(_) => {
+        TakeAnswer::Refused(_) => {}
+        TakeAnswer::Number(_) => {
             stream.add(tally, tally::TAKEN, 1);
             stream.add(tally, tally::OCTETS, size as u64);
         }
@@ -42,13 +42,13 @@ fn posted(
     notes: &mut [u64],
     tally: &mut [u64],
     packet: &[u8],
-    answer: Written,
+    answer: WriteAnswer,
     stream: Stream,
     dice: Dice,
 ) {
     match answer {
-        Written::Refused(_) => {}
-        Written::Wrote(size) => {
+        WriteAnswer::Refused(_) => {}
+        WriteAnswer::Wrote(size) => {
             if size <= packet.len() {
                 air::launch(air, notes, tally, &packet[0..size], stream, dice);
             }
@@ -78,8 +78,8 @@ fn send(
 ) -> Book {
     let report = gateway::held(book, stream.line, stream.channel);
     match report {
-        Report::Refused(_) => book,
-        Report::Holds(count) => {
+        HeldAnswer::Refused(_) => book,
+        HeldAnswer::Holds(count) => {
             if count == 0 {
                 return book;
             }
@@ -128,10 +128,10 @@ fn compare(tally: &mut [u64], stream: Stream, message: &[u8]) {
 }
 
 // Counts a message that was handed out, if one was.
-fn note_handed(tally: &mut [u64], stream: Stream, out: &[u8], answer: Written) {
+fn note_handed(tally: &mut [u64], stream: Stream, out: &[u8], answer: WriteAnswer) {
     match answer {
-        Written::Refused(_) => {}
-        Written::Wrote(size) => {
+        WriteAnswer::Refused(_) => {}
+        WriteAnswer::Wrote(size) => {
             if size <= out.len() {
                 compare(tally, stream, &out[0..size]);
             }
@@ -230,10 +230,10 @@ fn counted(tally: &mut [u64], packet: Packet) {
 }
 
 // Counts a packet that was refused.
-fn note_arrived(tally: &mut [u64], stream: Stream, answer: Arrived) {
+fn note_arrived(tally: &mut [u64], stream: Stream, answer: ArriveAnswer) {
     match answer {
-        Arrived::At(_) => {}
-        Arrived::Refused(_) => stream.add(tally, tally::REFUSED, 1),
+        ArriveAnswer::At(_) => {}
+        ArriveAnswer::Refused(_) => stream.add(tally, tally::REFUSED, 1),
     }
 }
 

@@ -6,7 +6,7 @@ use book::Book;
 use ground::Verdict;
 use line::Settings;
 use mode::Modes;
-use mode::Ticked;
+use mode::TickAnswer;
 use slip::Reading;
 
 // The two gateways' books.
@@ -121,7 +121,7 @@ fn tick(ends: Ends, line: u8, time: u64, out: &mut [u8]) -> Ends {
     let site = at_site.book;
     let office = at_office.book;
     let next = Ends { site, office };
-    if let Ticked::Audio(n) = answer {
+    if let TickAnswer::Audio(n) = answer {
         return recover(next, line, n, time, out);
     }
     next

@@ -2,16 +2,16 @@
 -- Assumes nothing.
 use mathlib.Core.List.{[], _∷_}
 use Rattle.ground.specs.Answer.{Answer, accepted, refused}
-use Rattle.outgoing.specs.declared.Taken.{Taken}
-use Rattle.outgoing.specs.declared.Taken.the-variants as taken
-use Rattle.outgoing.specs.declared.Report.{Report}
-use Rattle.outgoing.specs.declared.Report.the-variants as report
+use Rattle.outgoing.specs.declared.TakeAnswer.{TakeAnswer}
+use Rattle.outgoing.specs.declared.TakeAnswer.the-variants as taken
+use Rattle.outgoing.specs.declared.HeldAnswer.{HeldAnswer}
+use Rattle.outgoing.specs.declared.HeldAnswer.the-variants as report
 
 -- the message's number in its 14 bits
-abbrev pub takenSays : Taken → Answer
-takenSays (taken.Number n) = accepted (n ∷ [])
-takenSays (taken.Refused r) = refused r
+abbrev pub takeSays : TakeAnswer → Answer
+takeSays (taken.Number n) = accepted (n ∷ [])
+takeSays (taken.Refused r) = refused r
 
-abbrev pub reportSays : Report → Answer
-reportSays (report.Holds n) = accepted (n ∷ [])
-reportSays (report.Refused r) = refused r
+abbrev pub heldSays : HeldAnswer → Answer
+heldSays (report.Holds n) = accepted (n ∷ [])
+heldSays (report.Refused r) = refused r

@@ -3,57 +3,64 @@
 ghost use mathlib.Core.Path.{_≡_};
 ghost use mathlib.Core.List.{_∷_};
 ghost use Rattle.ground.specs.Refusal.{verdict, settle};
-ghost use Rattle.relay.specs.Asked.{relayTests};
+ghost use Rattle.relay.specs.RelayTests.{relayChannelTests};
 ghost use Rattle.relay.specs.Take.{takeCallTests};
 ghost use Rattle.writing.specs.Write.{emptyTests};
 ghost use Rattle.writing.specs.Send.{sendTests, ranked, heldIn};
-ghost use Rattle.writing.specs.declared.MaySend.{MaySend};
+ghost use Rattle.writing.specs.declared.SendVerdict.{SendVerdict};
 ghost use Rattle.book.specs.Book.{lineOf};
 ghost use Rattle.calls.specs.Order.{fitBook, roomy, lineNumber};
 use book::Book;
 use ground::Verdict;
-use writing::MaySend;
+use writing::SendVerdict;
 
 // May a message of n octets be taken?
 pub fn may_take(book: Book, store: usize, line: u8, channel: u8, n: usize) -> Verdict
     ensures { λ r. ⌜ r ≡ verdict (fitBook book ∷ roomy store ∷ lineNumber line ∷ takeCallTests (lineOf book line) channel n) ⌝ }
 {
-    let first = calls::on_both(book, store, line);
-    match first {
+    let earlier = calls::store_line_verdict(book, store, line);
+    match earlier {
         Verdict::Refuse(r) => Verdict::Refuse(r),
         Verdict::Pass => relay::may_take(book.line(line), channel, n),
     }
 }
 
-// May the held message of that rank be written into `room` octets, and which is it?
-pub fn may_send(book: Book, store: usize, line: u8, channel: u8, rank: u8, room: usize) -> MaySend
-    ensures { λ r. ⌜ r ≡ settle (verdict (fitBook book ∷ roomy store ∷ lineNumber line ∷ sendTests (lineOf book line) channel rank room)) MaySend.Refused (MaySend.Message (heldIn (ranked (lineOf book line) channel rank))) ⌝ }
+// May the held message of that rank be written into `space` octets, and which is it?
+pub fn may_send(
+    book: Book,
+    store: usize,
+    line: u8,
+    channel: u8,
+    rank: u8,
+    space: usize,
+) -> SendVerdict
+    ensures { λ r. ⌜ r ≡ settle (verdict (fitBook book ∷ roomy store ∷ lineNumber line ∷ sendTests (lineOf book line) channel rank space)) SendVerdict.Refused (SendVerdict.Message (heldIn (ranked (lineOf book line) channel rank))) ⌝ }
 {
-    let first = calls::on_both(book, store, line);
-    match first {
-        Verdict::Refuse(r) => MaySend::Refused(r),
-        Verdict::Pass => writing::may_send(book.line(line), channel, rank, room),
+    let earlier = calls::store_line_verdict(book, store, line);
+    match earlier {
+        Verdict::Refuse(r) => SendVerdict::Refused(r),
+        Verdict::Pass => writing::may_send(book.line(line), channel, rank, space),
     }
 }
 
-// May an empty packet be written into `room` octets?
-pub fn may_write_empty(book: Book, line: u8, channel: u8, room: usize) -> Verdict
-    ensures { λ r. ⌜ r ≡ verdict (fitBook book ∷ lineNumber line ∷ emptyTests (lineOf book line) channel room) ⌝ }
+// May an empty packet be written into `space` octets?
+pub fn may_write_empty(book: Book, line: u8, channel: u8, space: usize) -> Verdict
+    ensures { λ r. ⌜ r ≡ verdict (fitBook book ∷ lineNumber line ∷ emptyTests (lineOf book line) channel space) ⌝ }
 {
-    let first = calls::on_line(book, line);
-    match first {
+    let earlier = calls::line_verdict(book, line);
+    match earlier {
         Verdict::Refuse(r) => Verdict::Refuse(r),
-        Verdict::Pass => writing::may_write_empty(book.line(line), channel, room),
+        Verdict::Pass => writing::may_write_empty(book.line(line), channel, space),
     }
 }
 
 // May the held messages be reported?
 pub fn may_report(book: Book, line: u8, channel: u8) -> Verdict
-    ensures { λ r. ⌜ r ≡ verdict (fitBook book ∷ lineNumber line ∷ relayTests (lineOf book line) channel) ⌝ }
+    ensures { λ r. ⌜ r ≡ verdict (fitBook book ∷ lineNumber line ∷ relayChannelTests (lineOf book line) channel) ⌝ }
 {
-    let first = calls::on_line(book, line);
-    match first {
+    let earlier = calls::line_verdict(book, line);
+    match earlier {
         Verdict::Refuse(r) => Verdict::Refuse(r),
-        Verdict::Pass => relay::asked(book.line(line), channel),
+        Verdict::Pass => relay::channel_verdict(book.line(line), channel),
     }
 }

@@ -84,9 +84,9 @@ pub entered-list : (o : Owed) (word : ℕ) → owedOf (entered o word) ≡ enter
 unfolding entered
 entered-list o word = list-of o (enters (owedOf o) word)
 
-pub left-list : (o : Owed) → owedOf (withoutThree o) ≡ drop 3 (owedOf o)
+pub three-leave : (o : Owed) → owedOf (withoutThree o) ≡ drop 3 (owedOf o)
 unfolding withoutThree
-left-list o = list-of o (drop 3 (owedOf o))
+three-leave o = list-of o (drop 3 (owedOf o))
 
 -- What BOOK asks, as facts; every step keeps it.
 pub record OwedOk (o : Owed) : Type 0 where
@@ -124,9 +124,9 @@ listed o l a b c = owed-fits (withList o l) (record { few = a; spans = ap allSpa
 few-owed : (o : Owed) → o .count ≤ 64 → length (owedOf o) ≤ 64
 few-owed o h = omega (arith, length-take (o .count) (o .numbers))
 
-neither : (a b : Bool) → (a || b) ≡ false → (a ≡ false) × (b ≡ false)
-neither true b e = clash (sym e)
-neither false b e = (refl, e)
+or-false : (a b : Bool) → (a || b) ≡ false → (a ≡ false) × (b ≡ false)
+or-false true b e = clash (sym e)
+or-false false b e = (refl, e)
 
 pub enter-keeps : (o : Owed) (word : ℕ) → owedFits o ≡ true → served word ≡ true → owedFits (entered o word) ≡ true
 unfolding entered enters
@@ -140,7 +140,7 @@ enter-keeps o word t s =
     new : (l : List ℕ) → length l ≤ 64 → allSpans l ≡ true → noTwice l ≡ true → (leb 64 (length l) || member word l) ≡ false
         → owedFits (withList o (l ++ (word ∷ []))) ≡ true
     new l a b c e =
-        let f = neither (leb 64 (length l)) (member word l) e in
+        let f = or-false (leb 64 (length l)) (member word l) e in
         let g : length l < 64 = leb-false _ _ (f .0) in
         listed o (l ++ (word ∷ [])) (omega (arith, length-append l (word ∷ []))) (rw (spans-last word l, b, s)) (rw (twice-last word l, c, f .1))
 

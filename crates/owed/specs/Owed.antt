@@ -8,7 +8,7 @@ use lib.ListN.{length, getD, take, drop, replicate}
 use Rattle.ground.specs.Pick.{pick}
 use Rattle.field.specs.Word.{served}
 use Rattle.owed.specs.declared.Owed.{Owed}
-use Rattle.owed.specs.declared.Three.{Three}
+use Rattle.packet.specs.declared.Acks.{Acks}
 
 -- the entries there are; what stands behind them is of no account
 abbrev pub owedOf : Owed → List ℕ
@@ -34,7 +34,7 @@ unfoldable pub entered : Owed → ℕ → Owed
 entered o word = withList o (enters (owedOf o) word)
 
 -- "every packet written carries the first three, or all if fewer"
-unfoldable pub firstThree : Owed → Three
+unfoldable pub firstThree : Owed → Acks
 firstThree o = record {
   count = min 3 (length (owedOf o));
   one = getD (owedOf o) 0 0;

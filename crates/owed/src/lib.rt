@@ -5,20 +5,13 @@ ghost use Prim.Native.Nat.{_≤_, _<_};
 ghost use lib.ListN.{getD, take};
 ghost use Rattle.field.specs.Word.{wordOf};
 ghost use Rattle.owed.specs.Owed.{freshOwed, owedOf, member, entered, firstThree, withoutThree, owedFits};
+use packet::Acks;
 
 pub struct Owed {
     // The entries there are, oldest first, and behind them what is of no account.
     pub numbers: [u16; 64],
     // How many entries there are. At most 64.
     pub count: u8,
-}
-
-// The entries that a packet takes along: how many, and each, 0 where there is none.
-pub struct Three {
-    pub count: u8,
-    pub one: u16,
-    pub two: u16,
-    pub three: u16,
 }
 
 impl Owed {
@@ -80,21 +73,21 @@ impl Owed {
     }
 
     // The first three entries, or all if fewer.
-    pub fn first_three(self) -> Three
+    pub fn first_three(self) -> Acks
         ensures { λ r. ⌜ r ≡ firstThree self ⌝ }
     {
         let one = self.entry(0);
         let two = self.entry(1);
         let three = self.entry(2);
         if self.count < 3 {
-            return Three {
+            return Acks {
                 count: self.count,
                 one,
                 two,
                 three,
             };
         }
-        Three {
+        Acks {
             count: 3,
             one,
             two,

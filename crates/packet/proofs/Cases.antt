@@ -6,7 +6,7 @@ use Prim.Native.Nat.{ℕ, _+_, _*_, _≤_, _<_}
 use lib.ListN.{length}
 use borrow.Author.Tests.{lt-ltb, le-ltb, le-leb, lt-leb, eq-eqb, ne-eqb}
 use Rattle.field.specs.Bits.{bitsAt}
-use Rattle.packet.specs.Read.{channelAt, countAt, headerAt, numberAt, baseAt, ackAt}
+use Rattle.packet.specs.Read.{channelAt, countAt, headerLength, numberAt, baseAt, ackAt}
 
 module _ (s : List ℕ) where
   pub number-none : channelAt s ≡ 0 → 0 ≡ numberAt s
@@ -18,11 +18,11 @@ module _ (s : List ℕ) where
   base-none h = simp (eq-eqb _ _ h)
 
   module _ (h : channelAt s ≡ 0 → ⊥) where
-    pub number-empty : length s ≤ headerAt s → 0 ≡ numberAt s
+    pub number-empty : length s ≤ headerLength s → 0 ≡ numberAt s
     unfolding numberAt
     number-empty l = simp (ne-eqb _ _ h, le-leb _ _ l)
 
-    pub number-there : {x : ℕ} → headerAt s < length s → x ≡ bitsAt s 18 14 → x ≡ numberAt s
+    pub number-there : {x : ℕ} → headerLength s < length s → x ≡ bitsAt s 18 14 → x ≡ numberAt s
     unfolding numberAt
     number-there l e = simp (ne-eqb _ _ h, lt-leb _ _ l) e
 

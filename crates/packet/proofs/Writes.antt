@@ -15,10 +15,10 @@ use Rattle.ground.specs.Refusal.{verdict}
 use Rattle.ground.specs.Answer.{Writes}
 use Rattle.ground.specs.declared.Verdict.{Verdict}
 use Rattle.ground.specs.declared.Verdict.the-variants.{Pass}
-use Rattle.ground.specs.declared.Written.the-variants.{Wrote}
+use Rattle.ground.specs.declared.WriteAnswer.the-variants.{Wrote}
 use Rattle.ground.proofs.Picks.{each, both-true}
 use Rattle.ground.proofs.Verdicts.{Holds, passed}
-use Rattle.field.specs.Layout.{Field, of, wordOctets, widths, join, packed, Room}
+use Rattle.field.specs.Layout.{Field, of, wordOctets, widths, join, packed, InWidth}
 use Rattle.field.proofs.Laws.{join-is}
 use Rattle.field.proofs.Packs.{Wide, Words, all, joined, words-packed, length-octets}
 use Rattle.field.proofs.Stores.{sets-append, stored-writes}
@@ -58,7 +58,7 @@ acks-joined (w ∷ ws) =
 pub list-words : (ws : List ℕ) → Wide ws → packed (ackFields ws) ≡ wordOctets ws
 list-words ws h = ap packed (sym (acks-all ws)) ∙ words-packed (ackGroups ws) (acks-words ws h) ∙ ap wordOctets (acks-joined ws)
 
-pub list-room : (ws : List ℕ) → Wide ws → Room (ackFields ws)
+pub list-room : (ws : List ℕ) → Wide ws → InWidth (ackFields ws)
 list-room [] h = tt
 list-room (w ∷ ws) h =
     let k : w < 2 ^ 16 = h .0 in
@@ -69,7 +69,7 @@ list-wide [] = refl
 list-wide (w ∷ ws) = ap (λ (n : ℕ). 2 + (14 + n)) (list-wide ws) ∙ omega arith
 
 pub list-length : (a : Acks) → a .count ≤ 3 → length (ackList a) ≡ a .count
-list-length a h = length-take (a .count) (a .first ∷ a .second ∷ a .third ∷ []) ∙ omega arith
+list-length a h = length-take (a .count) (a .one ∷ a .two ∷ a .three ∷ []) ∙ omega arith
 
 module _ (h : Head) (a : Acks) where
   abbrev lead : List Field
@@ -81,7 +81,7 @@ module _ (h : Head) (a : Acks) where
   abbrev more : List Field
   more = of 2 (a .count) ∷ of 14 (h .base) ∷ []
 
-  module _ (r : Room (fixedFields h (a .count))) (w : Wide (ackList a)) where
+  module _ (r : InWidth (fixedFields h (a .count))) (w : Wide (ackList a)) where
     -- the octets, word by word
     header-words : packed (layout h a) ≡ wordOctets (join 0 lead ∷ join 0 own ∷ join 0 more ∷ ackList a)
     header-words =
@@ -92,7 +92,7 @@ module _ (h : Head) (a : Acks) where
 
     -- the words that the code joins, stored, are the header
     pub header-stored : (l : List ℕ) {l₁ : List ℕ}
-        → l₁ ≡ sets l 0 (wordOctets (take (3 + a .count) (bitOr (h .identifier * 2 ^ 8 % 2 ^ 16) (h .kind) ∷ bitOr (h .channel * 2 ^ 14 % 2 ^ 16) (h .number) ∷ bitOr (a .count * 2 ^ 14 % 2 ^ 16) (h .base) ∷ a .first ∷ a .second ∷ a .third ∷ [])))
+        → l₁ ≡ sets l 0 (wordOctets (take (3 + a .count) (bitOr (h .identifier * 2 ^ 8 % 2 ^ 16) (h .kind) ∷ bitOr (h .channel * 2 ^ 14 % 2 ^ 16) (h .number) ∷ bitOr (a .count * 2 ^ 14 % 2 ^ 16) (h .base) ∷ a .one ∷ a .two ∷ a .three ∷ [])))
         → l₁ ≡ sets l 0 (packed (layout h a))
     header-stored l e =
         let k : h .kind < 2 ^ 8 = omega arith in
@@ -100,7 +100,7 @@ module _ (h : Head) (a : Acks) where
         let y : bitOr (h .channel * 2 ^ 14 % 2 ^ 16) (h .number) ≡ join 0 own = join-is 2 14 16 (r .1 .1 .1 .1 .0) (r .1 .1 .1 .1 .1 .0) (lit≤ tt) ∙ omega arith in
         let z : bitOr (a .count * 2 ^ 14 % 2 ^ 16) (h .base) ≡ join 0 more = join-is 2 14 16 (r .1 .1 .1 .1 .1 .1 .0) (r .1 .1 .1 .1 .1 .1 .1 .0) (lit≤ tt) ∙ omega arith in
         let t : 3 + a .count ≡ suc (suc (suc (a .count))) = omega arith in
-        e ∙ (λ i. sets l 0 (wordOctets (take (t i) (x i ∷ y i ∷ z i ∷ a .first ∷ a .second ∷ a .third ∷ [])))) ∙ ap (sets l 0) (sym header-words)
+        e ∙ (λ i. sets l 0 (wordOctets (take (t i) (x i ∷ y i ∷ z i ∷ a .one ∷ a .two ∷ a .three ∷ [])))) ∙ ap (sets l 0) (sym header-words)
 
   pub header-length : a .count ≤ 3 → length (packed (layout h a)) ≡ 6 + 2 * a .count
   header-length k =
@@ -121,7 +121,7 @@ module _ (h : Head) (a : Acks) where
       e₂ ∙ (λ i. sets (e₁ i) ((e ∙ sym (header-length k) ∙ sym (zero-add (length p))) i) payload) ∙ sym (sets-append p payload l 0)
 
   -- what the tests show
-  pub fits-room : (n : ℕ) → fieldsFit h a n ≡ true → h .channel < 3 → Room (fixedFields h (a .count))
+  pub fits-room : (n : ℕ) → fieldsFit h a n ≡ true → h .channel < 3 → InWidth (fixedFields h (a .count))
   unfolding fieldsFit
   fits-room n e c =
       let t = each (ltb (h .identifier) 128 ∷ ltb (h .kind) 128 ∷ ltb (h .number) 16384 ∷ ltb (h .base) 16384 ∷ leb (a .count) 3 ∷ acksBlank a ∷ numbersPlaced h n ∷ []) e in
@@ -137,7 +137,7 @@ module _ (h : Head) (a : Acks) (payload : List ℕ) (largest : ℕ) (l : List �
   tests : Holds (writeTests h a payload largest (length l))
   tests = passed (writeTests h a payload largest (length l)) (sym e ∙ k)
 
-  pub write-room : Room (fixedFields h (a .count))
+  pub write-room : InWidth (fixedFields h (a .count))
   write-room = fits-room h a (length payload) (tests .0) (ltb-true _ _ (both-true _ _ (tests .1 .0) .0))
 
   pub write-done : {l₁ l₂ : List ℕ} {n : ℕ} → n ≡ 6 + 2 * a .count → l₁ ≡ sets l 0 (packed (layout h a)) → l₂ ≡ sets l₁ n payload

@@ -11,7 +11,7 @@ use Rattle.packet.specs.declared.Acks.{Acks}
 
 -- the acknowledgements as a list
 abbrev pub ackList : Acks → List ℕ
-ackList a = take (a .count) (a .first ∷ a .second ∷ a .third ∷ [])
+ackList a = take (a .count) (a .one ∷ a .two ∷ a .three ∷ [])
 
 -- of n acknowledgements the k-th, from 0, names a channel that is served, if it is there
 abbrev pub named : ℕ → ℕ → ℕ → Bool
@@ -22,7 +22,7 @@ abbrev pub blank : ℕ → ℕ → ℕ → Bool
 blank n k w = pick (ltb k n) true (eqb w 0)
 
 unfoldable pub acksServed : Acks → Bool
-acksServed a = allHold (named (a .count) 0 (a .first) ∷ named (a .count) 1 (a .second) ∷ named (a .count) 2 (a .third) ∷ [])
+acksServed a = allHold (named (a .count) 0 (a .one) ∷ named (a .count) 1 (a .two) ∷ named (a .count) 2 (a .three) ∷ [])
 
 unfoldable pub acksBlank : Acks → Bool
-acksBlank a = allHold (blank (a .count) 0 (a .first) ∷ blank (a .count) 1 (a .second) ∷ blank (a .count) 2 (a .third) ∷ [])
+acksBlank a = allHold (blank (a .count) 0 (a .one) ∷ blank (a .count) 1 (a .two) ∷ blank (a .count) 2 (a .three) ∷ [])

@@ -13,10 +13,10 @@ use Rattle.field.specs.Bits.{bitsAt}
 use Rattle.packet.specs.Acks.{acksServed}
 use Rattle.packet.specs.declared.Head.{Head}
 use Rattle.packet.specs.declared.Acks.{Acks}
-use Rattle.packet.specs.declared.HeadRead.{HeadRead}
-use Rattle.packet.specs.declared.HeadRead.the-variants as head
-use Rattle.packet.specs.declared.AcksRead.{AcksRead}
-use Rattle.packet.specs.declared.AcksRead.the-variants as acks
+use Rattle.packet.specs.declared.HeadReading.{HeadReading}
+use Rattle.packet.specs.declared.HeadReading.the-variants as head
+use Rattle.packet.specs.declared.AcksReading.{AcksReading}
+use Rattle.packet.specs.declared.AcksReading.the-variants as acks
 
 -- "One extension bit, identifier (7 bits), one reserved bit, payload type (7); channel (2), sequence number (14);
 -- number of acknowledgements (2), base number (14)"
@@ -27,15 +27,15 @@ abbrev pub countAt : List ℕ → ℕ
 countAt s = bitsAt s 32 2
 
 -- "So a header is 6, 8, 10 or 12 octets"; "the rest is payload"
-abbrev pub headerAt : List ℕ → ℕ
-headerAt s = 6 + 2 * countAt s
+abbrev pub headerLength : List ℕ → ℕ
+headerLength s = 6 + 2 * countAt s
 
 unfoldable pub payloadOf : List ℕ → List ℕ
-payloadOf s = drop (headerAt s) s
+payloadOf s = drop (headerLength s) s
 
 -- "On channel 0 both numbers are written 0 and neither is looked at"; "A packet without payload .. its sequence number is .. not looked at"
 unfoldable pub numberAt : List ℕ → ℕ
-numberAt s = pick (eqb (channelAt s) 0) 0 (pick (leb (length s) (headerAt s)) 0 (bitsAt s 18 14))
+numberAt s = pick (eqb (channelAt s) 0) 0 (pick (leb (length s) (headerLength s)) 0 (bitsAt s 18 14))
 
 unfoldable pub baseAt : List ℕ → ℕ
 baseAt s = pick (eqb (channelAt s) 0) 0 (bitsAt s 34 14)
@@ -48,7 +48,7 @@ unfoldable pub ackAt : List ℕ → ℕ → ℕ
 ackAt s k = pick (ltb k (countAt s)) (bitsAt s (8 * (6 + 2 * k)) 16) 0
 
 unfoldable pub acksAt : List ℕ → Acks
-acksAt s = record { count = countAt s; first = ackAt s 0; second = ackAt s 1; third = ackAt s 2 }
+acksAt s = record { count = countAt s; one = ackAt s 0; two = ackAt s 1; three = ackAt s 2 }
 
 -- the tests, each by its row of 'Refusal numbers'
 abbrev pub fixedThere : List ℕ → Bool
@@ -58,7 +58,7 @@ abbrev pub formPlain : List ℕ → Bool
 formPlain s = allHold (eqb (bitsAt s 0 1) 0 ∷ eqb (bitsAt s 8 1) 0 ∷ [])
 
 abbrev pub listThere : List ℕ → Bool
-listThere s = leb (headerAt s) (length s)
+listThere s = leb (headerLength s) (length s)
 
 abbrev pub channelsServed : List ℕ → Bool
 channelsServed s = allHold (ltb (channelAt s) 3 ∷ acksServed (acksAt s) ∷ [])
@@ -68,7 +68,7 @@ unfoldable pub sizeFits : ℕ → ℕ → ℕ → Bool
 sizeFits channel n largest = pick (eqb channel 0) (eqb n 0) (leb n largest)
 
 abbrev pub payloadFits : List ℕ → ℕ → Bool
-payloadFits s largest = sizeFits (channelAt s) (length s - headerAt s) largest
+payloadFits s largest = sizeFits (channelAt s) (length s - headerLength s) largest
 
 -- "SHORT for 6 octets, FORM"; then, behind what the line has to say, "SHORT for the list, CHANNEL"
 abbrev pub headTests : List ℕ → List Test
@@ -78,16 +78,16 @@ abbrev pub listTests : List ℕ → List Test
 listTests s = must (listThere s) SHORT ∷ must (channelsServed s) CHANNEL ∷ []
 
 -- what each case of a reading stands for: its values, or the refusal's number
-abbrev pub headAnswer : HeadRead → Answer
-headAnswer (head.Says h) = accepted (h .identifier ∷ h .kind ∷ h .channel ∷ h .number ∷ h .base ∷ [])
-headAnswer (head.Refused r) = refused r
+abbrev pub headSays : HeadReading → Answer
+headSays (head.Says h) = accepted (h .identifier ∷ h .kind ∷ h .channel ∷ h .number ∷ h .base ∷ [])
+headSays (head.Refused r) = refused r
 
-abbrev pub acksAnswer : AcksRead → Answer
-acksAnswer (acks.Says a) = accepted (a .count ∷ a .first ∷ a .second ∷ a .third ∷ [])
-acksAnswer (acks.Refused r) = refused r
+abbrev pub acksSays : AcksReading → Answer
+acksSays (acks.Says a) = accepted (a .count ∷ a .one ∷ a .two ∷ a .three ∷ [])
+acksSays (acks.Refused r) = refused r
 
-abbrev pub headRead : List ℕ → HeadRead
+abbrev pub headRead : List ℕ → HeadReading
 headRead s = settle (verdict (headTests s)) head.Refused (head.Says (headAt s))
 
-abbrev pub acksRead : List ℕ → AcksRead
+abbrev pub acksRead : List ℕ → AcksReading
 acksRead s = settle (verdict (listTests s)) acks.Refused (acks.Says (acksAt s))

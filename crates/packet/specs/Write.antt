@@ -46,9 +46,9 @@ fieldsFit h a n =
 
 -- a field out of its span, a channel that is not served, a payload too large, an output too small
 abbrev pub writeTests : Head → Acks → List ℕ → ℕ → ℕ → List Test
-writeTests h a payload largest room =
+writeTests h a payload largest space =
     must (fieldsFit h a (length payload)) RANGE
     ∷ must (allHold (ltb (h .channel) 3 ∷ acksServed a ∷ [])) CHANNEL
     ∷ must (sizeFits (h .channel) (length payload) largest) SIZE
-    ∷ must (leb (length (packetOctets h a payload)) room) ROOM
+    ∷ must (leb (length (packetOctets h a payload)) space) ROOM
     ∷ []

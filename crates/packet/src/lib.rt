@@ -5,7 +5,7 @@ ghost use Prim.Native.Nat.{_<_};
 ghost use Rattle.ground.specs.Refusal.{verdict};
 ghost use Rattle.ground.specs.Answer.{Gives};
 ghost use Rattle.packet.specs.Acks.{named, acksServed};
-ghost use Rattle.packet.specs.Read.{headTests, listTests, headAnswer, acksAnswer, headAt, acksAt, headerAt, channelAt, numberAt, baseAt, ackAt, sizeFits, payloadFits, formPlain};
+ghost use Rattle.packet.specs.Read.{headTests, listTests, headSays, acksSays, headAt, acksAt, headerLength, channelAt, numberAt, baseAt, ackAt, sizeFits, payloadFits, formPlain};
 use ground::Refusal;
 use ground::Verdict;
 
@@ -31,26 +31,26 @@ pub struct Head {
 // A word at or past the count is 0.
 pub struct Acks {
     pub count: u8,
-    pub first: u16,
-    pub second: u16,
-    pub third: u16,
+    pub one: u16,
+    pub two: u16,
+    pub three: u16,
 }
 
 // What the first six octets say, or why they say nothing.
-pub enum HeadRead {
+pub enum HeadReading {
     Says(Head),
     Refused(Refusal),
 }
 
 // What the list behind them says, or why it says nothing.
-pub enum AcksRead {
+pub enum AcksReading {
     Says(Acks),
     Refused(Refusal),
 }
 
 // Where the payload begins: behind six octets and two for each acknowledgement.
-pub fn header_at(s: &[u8]) -> usize
-    ensures { λ r. ⌜ r ≡ headerAt (now (s .entry)) ⌝ }
+pub fn header_length(s: &[u8]) -> usize
+    ensures { λ r. ⌜ r ≡ headerLength (now (s .entry)) ⌝ }
 {
     6 + 2 * ((field::word_at(s, 4) >> 14) as usize)
 }
@@ -67,7 +67,7 @@ fn number_at(s: &[u8]) -> u16
     if channel_at(s) == 0 {
         return 0;
     }
-    if s.len() <= header_at(s) {
+    if s.len() <= header_length(s) {
         return 0;
     }
     field::word_at(s, 2) & 0x3fff
@@ -120,12 +120,12 @@ fn head_verdict(s: &[u8]) -> Verdict
 }
 
 // The first six octets: SHORT, FORM.
-pub fn read_head(s: &[u8]) -> HeadRead
-    ensures { λ r. ⌜ Gives headAnswer (headTests (now (s .entry))) HeadRead.Refused (HeadRead.Says (headAt (now (s .entry)))) r ⌝ }
+pub fn read_head(s: &[u8]) -> HeadReading
+    ensures { λ r. ⌜ Gives headSays (headTests (now (s .entry))) HeadReading.Refused (HeadReading.Says (headAt (now (s .entry)))) r ⌝ }
 {
     match head_verdict(s) {
-        Verdict::Pass => HeadRead::Says(head_at(s)),
-        Verdict::Refuse(r) => HeadRead::Refused(r),
+        Verdict::Pass => HeadReading::Says(head_at(s)),
+        Verdict::Refuse(r) => HeadReading::Refused(r),
     }
 }
 
@@ -145,14 +145,14 @@ fn acks_at(s: &[u8]) -> Acks
     ensures { λ r. ⌜ r ≡ acksAt (now (s .entry)) ⌝ }
 {
     let count = (field::word_at(s, 4) >> 14) as u8;
-    let first = ack_at(s, 0);
-    let second = ack_at(s, 1);
-    let third = ack_at(s, 2);
+    let one = ack_at(s, 0);
+    let two = ack_at(s, 1);
+    let three = ack_at(s, 2);
     Acks {
         count,
-        first,
-        second,
-        third,
+        one,
+        two,
+        three,
     }
 }
 
@@ -167,13 +167,13 @@ pub fn acks_served(a: Acks) -> bool
     ensures { λ r. ⌜ r ≡ acksServed a ⌝ }
 {
     let n = a.count;
-    ack_named(n, 0, a.first) & ack_named(n, 1, a.second) & ack_named(n, 2, a.third)
+    ack_named(n, 0, a.one) & ack_named(n, 1, a.two) & ack_named(n, 2, a.three)
 }
 
 fn list_verdict(s: &[u8]) -> Verdict
     ensures { λ r. ⌜ r ≡ verdict (listTests (now (s .entry))) ⌝ }
 {
-    if s.len() < header_at(s) {
+    if s.len() < header_length(s) {
         return Verdict::Refuse(Refusal::SHORT);
     }
     let served = acks_served(acks_at(s));
@@ -185,12 +185,12 @@ fn list_verdict(s: &[u8]) -> Verdict
 }
 
 // The acknowledgements behind the six octets: SHORT, CHANNEL.
-pub fn read_acks(s: &[u8]) -> AcksRead
-    ensures { λ r. ⌜ Gives acksAnswer (listTests (now (s .entry))) AcksRead.Refused (AcksRead.Says (acksAt (now (s .entry)))) r ⌝ }
+pub fn read_acks(s: &[u8]) -> AcksReading
+    ensures { λ r. ⌜ Gives acksSays (listTests (now (s .entry))) AcksReading.Refused (AcksReading.Says (acksAt (now (s .entry)))) r ⌝ }
 {
     match list_verdict(s) {
-        Verdict::Pass => AcksRead::Says(acks_at(s)),
-        Verdict::Refuse(r) => AcksRead::Refused(r),
+        Verdict::Pass => AcksReading::Says(acks_at(s)),
+        Verdict::Refuse(r) => AcksReading::Refused(r),
     }
 }
 
@@ -208,7 +208,7 @@ pub fn size_fits(channel: u8, n: usize, largest: usize) -> bool
 pub fn payload_fits(s: &[u8], largest: usize) -> bool
     ensures { λ r. ⌜ r ≡ payloadFits (now (s .entry)) largest ⌝ }
 {
-    let at = header_at(s);
+    let at = header_length(s);
     let channel = channel_at(s);
     if s.len() <= at {
         return size_fits(channel, 0, largest);

@@ -5,14 +5,14 @@ ghost use Prim.Native.Nat.{_+_, _*_};
 ghost use lib.Seq.{sets};
 ghost use Rattle.ground.specs.Refusal.{verdict};
 ghost use Rattle.ground.specs.Answer.{Writes};
-ghost use Rattle.field.specs.Layout.{packed, Room};
+ghost use Rattle.field.specs.Layout.{packed, InWidth};
 ghost use Rattle.packet.specs.Acks.{blank, acksBlank};
 ghost use Rattle.packet.specs.Write.{layout, fixedFields, numbersPlaced, fieldsFit, writeTests, packetOctets};
 use crate::Acks;
 use crate::Head;
 use ground::Refusal;
 use ground::Verdict;
-use ground::Written;
+use ground::WriteAnswer;
 
 fn ack_blank(n: u8, k: u8, w: u16) -> bool
     ensures { λ r. ⌜ r ≡ blank n k w ⌝ }
@@ -25,7 +25,7 @@ fn acks_blank(a: Acks) -> bool
     ensures { λ r. ⌜ r ≡ acksBlank a ⌝ }
 {
     let n = a.count;
-    ack_blank(n, 0, a.first) & ack_blank(n, 1, a.second) & ack_blank(n, 2, a.third)
+    ack_blank(n, 0, a.one) & ack_blank(n, 1, a.two) & ack_blank(n, 2, a.three)
 }
 
 // Are numbers that have no place 0? n is the payload's length.
@@ -55,8 +55,8 @@ fn fields_fit(h: Head, a: Acks, n: usize) -> bool
         & placed
 }
 
-fn write_verdict(h: Head, a: Acks, payload: &[u8], largest: usize, room: usize) -> Verdict
-    ensures { λ r. ⌜ r ≡ verdict (writeTests h a (now (payload .entry)) largest room) ⌝ }
+fn write_verdict(h: Head, a: Acks, payload: &[u8], largest: usize, space: usize) -> Verdict
+    ensures { λ r. ⌜ r ≡ verdict (writeTests h a (now (payload .entry)) largest space) ⌝ }
 {
     let n = payload.len();
     if fields_fit(h, a, n) {} else {
@@ -69,7 +69,7 @@ fn write_verdict(h: Head, a: Acks, payload: &[u8], largest: usize, room: usize) 
     if crate::size_fits(h.channel, n, largest) {} else {
         return Verdict::Refuse(Refusal::SIZE);
     }
-    if 6 + 2 * (a.count as usize) + n <= room {
+    if 6 + 2 * (a.count as usize) + n <= space {
         Verdict::Pass
     } else {
         Verdict::Refuse(Refusal::ROOM)
@@ -78,16 +78,16 @@ fn write_verdict(h: Head, a: Acks, payload: &[u8], largest: usize, room: usize) 
 
 // Stores the header and answers how many octets that is.
 fn put_header(out: &mut [u8], h: Head, a: Acks) -> usize
-    requires { ⌜ Room (fixedFields h (a .count)) ⌝ }
+    requires { ⌜ InWidth (fixedFields h (a .count)) ⌝ }
     ensures { λ r. ⌜ (r ≡ 6 + 2 * a .count) × (now (out .exit) ≡ sets (now (out .entry)) 0 (packed (layout h a))) ⌝ }
 {
     let words = [
         (h.identifier as u16) << 8 | h.kind as u16,
         (h.channel as u16) << 14 | h.number,
         (a.count as u16) << 14 | h.base,
-        a.first,
-        a.second,
-        a.third,
+        a.one,
+        a.two,
+        a.three,
     ];
     let n = 3 + a.count as usize;
     field::put_words(out, &words[..n]);
@@ -95,15 +95,15 @@ fn put_header(out: &mut [u8], h: Head, a: Acks) -> usize
 }
 
 // Writes a packet: RANGE, CHANNEL, SIZE, ROOM. `largest` is the line's largest message.
-pub fn write_packet(out: &mut [u8], h: Head, a: Acks, payload: &[u8], largest: usize) -> Written
+pub fn write_packet(out: &mut [u8], h: Head, a: Acks, payload: &[u8], largest: usize) -> WriteAnswer
     ensures { λ r. ⌜ Writes (writeTests h a (now (payload .entry)) largest (length (now (out .entry)))) (packetOctets h a (now (payload .entry))) (now (out .entry)) (now (out .exit)) r ⌝ }
 {
     match write_verdict(h, a, payload, largest, out.len()) {
-        Verdict::Refuse(r) => Written::Refused(r),
+        Verdict::Refuse(r) => WriteAnswer::Refused(r),
         Verdict::Pass => {
             let n = put_header(out, h, a);
             field::put_octets(out, n, payload);
-            Written::Wrote(n + payload.len())
+            WriteAnswer::Wrote(n + payload.len())
         }
     }
 }

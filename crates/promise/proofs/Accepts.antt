@@ -34,10 +34,10 @@ use Rattle.line.specs.Line.{sendingOf, receivingOf}
 use Rattle.line.specs.declared.Line.{Line}
 use Rattle.mode.specs.Given.{modem}
 use Rattle.store.specs.declared.Way.the-variants as way
-use Rattle.relay.specs.Asked.{reliable, relayTests}
+use Rattle.relay.specs.RelayTests.{reliable, relayChannelTests}
 use Rattle.relay.specs.Take.{takeCallTests}
 use Rattle.relay.specs.HandOut.{handCallTests}
-use Rattle.writing.specs.Write.{headerFor, emptyTests}
+use Rattle.writing.specs.Write.{headerLengthFor, emptyTests}
 use Rattle.writing.specs.Send.{ranked, heldIn, sendTests, sentLength}
 use Rattle.writing.proofs.Packets.{acks-few}
 use Rattle.writing.proofs.Sends.{send-may, may-passed, may-sendable, send-size}
@@ -47,13 +47,13 @@ use Rattle.calls.specs.Call as call
 use Rattle.calls.specs.Order.{tests, fitBook, roomy, lineNumber}
 use Rattle.promise.specs.Past.{Past}
 use Rattle.promise.specs.Run.{Gateway, lineAt}
-use Rattle.promise.specs.Ends.{roomsOf}
+use Rattle.promise.specs.Ends.{slotsOf}
 use Rattle.promise.specs.Promise.{InRelay, sendsBy, receivesBy}
 use Rattle.promise.proofs.Ends.{End, Joined, turn, sent, got, sends-ok, gets-ok}
 use Rattle.promise.proofs.Promised.{full-bit, next-there, next-below}
 use Rattle.promise.proofs.Phases.{endOf, Open, Sound, is-open, end-now}
-use Rattle.promise.proofs.Own.{Passes}
-use Rattle.promise.proofs.Calls.{joined-open}
+use Rattle.promise.proofs.OwnLine.{Passes}
+use Rattle.promise.proofs.CallsKeep.{joined-open}
 
 -- the message whose place has the rank
 pub ranked-is : (l : Line) (channel rank : ℕ) {n : ℕ} → rankOf (maskOf (sendingOf l channel .unacked)) rank ≡ At n
@@ -63,13 +63,13 @@ ranked-is l channel rank e = ap (heldAt (windowOf channel) (sendingOf l channel)
 
 -- On a line in modem relay.
 module _ (l : Line) (opened : l .opened ≡ true) (inside : l .modes .local ≡ modem) where
-  pub relay-asked : (channel : ℕ) → reliable channel ≡ true → verdict (relayTests l channel) ≡ Pass
-  unfolding relayTests
-  relay-asked channel v = passes (relayTests l channel) (opened, (eq-eqb _ _ inside, (v, tt)))
+  pub relay-asked : (channel : ℕ) → reliable channel ≡ true → verdict (relayChannelTests l channel) ≡ Pass
+  unfolding relayChannelTests
+  relay-asked channel v = passes (relayChannelTests l channel) (opened, (eq-eqb _ _ inside, (v, tt)))
 
   -- a message that has a rank is written where the largest packet has room
-  module _ (fits : lineFits l ≡ true) (channel rank room : ℕ) (v : reliable channel ≡ true) (roomy : 144 ≤ room) where
-    rank-may : {n : ℕ} → rankOf (maskOf (sendingOf l channel .unacked)) rank ≡ At n → verdict (sendTests l channel rank room) ≡ Pass
+  module _ (fits : lineFits l ≡ true) (channel rank space : ℕ) (v : reliable channel ≡ true) (roomy : 144 ≤ space) where
+    rank-may : {n : ℕ} → rankOf (maskOf (sendingOf l channel .unacked)) rank ≡ At n → verdict (sendTests l channel rank space) ≡ Pass
     rank-may {n} e =
         let w = windowOf channel in
         let s = sendingOf l channel in
@@ -77,33 +77,33 @@ module _ (l : Line) (opened : l .opened ≡ true) (inside : l .modes .local ≡ 
         let held : Held = heldIn (heldAt w s (At n)) in
         let exact = send-may l channel rank (sentLength l held) asked (ranked-is l channel rank e) (self (sentLength l held)) in
         let size = send-size l fits channel (sentLength l held) held (may-sendable l channel rank (sentLength l held) fits exact) in
-        may-passed l channel rank room (send-may l channel rank room asked (ranked-is l channel rank e) (omega (arith, acks-few l, size .1))) .0
+        may-passed l channel rank space (send-may l channel rank space asked (ranked-is l channel rank e) (omega (arith, acks-few l, size .1))) .0
       where
         self : (n : ℕ) → n ≤ n
         self n = omega arith
 
-    pub send-may-by : rank < heldCount (sendingOf l channel) → verdict (sendTests l channel rank room) ≡ Pass
+    pub send-may-by : rank < heldCount (sendingOf l channel) → verdict (sendTests l channel rank space) ≡ Pass
     send-may-by q = let f = rank-found (maskOf (sendingOf l channel .unacked)) rank q in rank-may (f .1)
 
-  pub empty-may : (channel room : ℕ) → channel ≤ 2 → 12 ≤ room → verdict (emptyTests l channel room) ≡ Pass
+  pub empty-may : (channel space : ℕ) → channel ≤ 2 → 12 ≤ space → verdict (emptyTests l channel space) ≡ Pass
   unfolding emptyTests
-  empty-may channel room c r = passes (emptyTests l channel room) (opened, (eq-eqb _ _ inside, (le-leb channel 2 c, (le-leb (headerFor l) room (omega (arith, acks-few l)), tt))))
+  empty-may channel space c r = passes (emptyTests l channel space) (opened, (eq-eqb _ _ inside, (le-leb channel 2 c, (le-leb (headerLengthFor l) space (omega (arith, acks-few l)), tt))))
 
--- a hand-out is not refused where message R is stored; room is the output's length
-module _ (c : ℕ) (v : reliable c ≡ true) (room : ℕ) (roomy : largest ≤ room) where
-  pub hand-may : {e f : End} → Joined e f → f .line .opened ≡ true → f .line .modes .local ≡ modem → Full (got f c .stored (got f c .R)) → verdict (handCallTests (f .line) c room) ≡ Pass
-  unfolding handCallTests relayTests
+-- a hand-out is not refused where message R is stored; space is the output's length
+module _ (c : ℕ) (v : reliable c ≡ true) (space : ℕ) (roomy : largest ≤ space) where
+  pub hand-may : {e f : End} → Joined e f → f .line .opened ≡ true → f .line .modes .local ≡ modem → Full (got f c .stored (got f c .R)) → verdict (handCallTests (f .line) c space) ≡ Pass
+  unfolding handCallTests relayChannelTests
   hand-may {e} {f} j opened inside full =
       let r : Receiving = receivingOf (f .line) c in
       let w = windowOf c in
       let there : bitOf (maskOf (r .stored)) 0 ≡ true = next-there j c v full in
       let k = gets-ok (j .yours .sides) c in
       let below : r .next < cap = omega (arith, sends-ok (j .mine .sides) c .capped, next-below j c v full) in
-      let first : placeOf (r .first) 0 w ≡ r .first = pick-lt (λ (p : ℕ). p ≡ r .first) (r .first + 0) w (λ l. add-zero (r .first)) (λ l. absurd (omega (arith, k .placed))) in
-      let sized : sizeFits largest (getD (r .sizes) (placeOf (r .first) 0 w) 0) ≡ true = receiving-sized w largest r (j .yours .sides .receiving c) 0 (omega (arith, k .placed)) there in
-      let fits : sizeFits largest (nextSize r) ≡ true = rw first at sized in
+      let origin : placeOf (r .origin) 0 w ≡ r .origin = pick-lt (λ (p : ℕ). p ≡ r .origin) (r .origin + 0) w (λ l. add-zero (r .origin)) (λ l. absurd (omega (arith, k .placed))) in
+      let sized : sizeFits largest (getD (r .sizes) (placeOf (r .origin) 0 w) 0) ≡ true = receiving-sized w largest r (j .yours .sides .receiving c) 0 (omega (arith, k .placed)) there in
+      let fits : sizeFits largest (nextSize r) ≡ true = rw origin at sized in
       let small : nextSize r ≤ largest = leb-true _ _ (both-true (ltb 0 (nextSize r)) (leb (nextSize r) largest) fits .1) in
-      passes (handCallTests (f .line) c room) (opened, (eq-eqb _ _ inside, (v, (lt-ltb _ _ below, (there, (le-leb (nextSize r) room (omega arith), tt))))))
+      passes (handCallTests (f .line) c space) (opened, (eq-eqb _ _ inside, (v, (lt-ltb _ _ below, (there, (le-leb (nextSize r) space (omega arith), tt))))))
 
 -- At a gateway.
 module _ {i identifier kind : ℕ} {g : Gateway} {p : Past} (s : Sound i identifier kind g p) (a : InRelay g i p) {f : End} (j : Joined (endOf g i p) f) (out : List ℕ) where
@@ -124,7 +124,7 @@ module _ {i identifier kind : ℕ} {g : Gateway} {p : Past} (s : Sound i identif
   module _ (channel : ℕ) (v : reliable channel ≡ true) where
     pub report-passes : Passes g (call.report i channel) out
     unfolding tests
-    report-passes = on (relayTests (lineAt g i) channel) (relay-asked (lineAt g i) (own .opened) (a .1) channel v)
+    report-passes = on (relayChannelTests (lineAt g i) channel) (relay-asked (lineAt g i) (own .opened) (a .1) channel v)
 
     -- a message is taken unless it is FULL or SPENT
     pub taking-passes : (m : Message) → 0 < length m → length m ≤ largest → sendingOf (lineAt g i) channel .taken < cap
@@ -135,7 +135,7 @@ module _ {i identifier kind : ℕ} {g : Gateway} {p : Past} (s : Sound i identif
         let sized : sizeFits largest (length m) ≡ true = rw (lt-ltb 0 (length m) some, le-leb (length m) largest small) in
         let rest = must (sizeFits largest (length m)) SIZE ∷ takeTests (windowOf channel) (sendingOf l channel) in
         lent (takeCallTests l channel (length m))
-        (verdict-on (relayTests l channel) rest (relay-asked l (own .opened) (a .1) channel v) ∙ passes rest (sized, (lt-ltb _ _ under, (lt-ltb _ _ near, tt))))
+        (verdict-on (relayChannelTests l channel) rest (relay-asked l (own .opened) (a .1) channel v) ∙ passes rest (sized, (lt-ltb _ _ under, (lt-ltb _ _ near, tt))))
 
     pub send-passes : (rank : ℕ) → rank < heldCount (sendingOf (lineAt g i) channel) → 144 ≤ length out → Passes g (call.sending i channel rank) out
     unfolding tests
@@ -145,7 +145,7 @@ module _ {i identifier kind : ℕ} {g : Gateway} {p : Past} (s : Sound i identif
     pub take-passes : (m : Message) → 1 ≤ length m → length m ≤ largest → sendsBy g i p channel .S < cap → sendsBy g i p channel .S - sendsBy g i p channel .h < windowOf channel
         → Passes g (call.taking i channel m) out
     unfolding tests
-    take-passes m some few below room =
+    take-passes m some few below space =
         let now = end-now g i p (a .0) refl refl in
         let S : sendsBy g i p channel .S ≡ sendingOf (lineAt g i) channel .taken = ap (λ (e : End). sent e channel .S) now in
         let h : sendsBy g i p channel .h ≡ sendingOf (lineAt g i) channel .base = ap (λ (e : End). sent e channel .h) now in
@@ -160,7 +160,7 @@ module _ {i identifier kind : ℕ} {g : Gateway} {p : Past} (s : Sound i identif
         let m = maskOf (k .unacked) in
         let d = n - k .base in
         let base : sendsBy g i p channel .h ≡ k .base = ap (λ (e : End). sent e channel .h) now in
-        let bit : bitOf m d ≡ true = full-bit (windowOf channel) (roomsOf (g .store) i way.Sending channel) (k .sizes) m (k .first) d (subst (λ (e : End). Full (sent e channel .held n)) now full) in
+        let bit : bitOf m d ≡ true = full-bit (windowOf channel) (slotsOf (g .store) i way.Sending channel) (k .sizes) m (k .origin) d (subst (λ (e : End). Full (sent e channel .held n)) now full) in
         let near : d < 32 = omega (arith, j .there channel v .high, window-narrow channel) in
         let r = rank-of m d near bit in
         (setBelow m d, r .1, ap (λ (x : Ranked). heldIn x .number) (ranked-is (lineAt g i) channel (setBelow m d) (r .0)) ∙ back (k .base) (omega arith))

@@ -12,7 +12,7 @@ use Rattle.ground.specs.declared.Verdict.the-variants.{Pass}
 use Rattle.ground.proofs.Verdicts.{passes}
 use Rattle.mode.specs.Given.{modem}
 use Rattle.mode.specs.Moved.{moved}
-use Rattle.mode.specs.Request.{askTests, asking}
+use Rattle.mode.specs.Request.{askTests, askStep}
 use Rattle.mode.specs.Acts.{ask, outcome}
 use Rattle.mode.specs.declared.Modes.{Modes}
 use Rattle.owed.specs.Owed.{member}
@@ -25,20 +25,20 @@ use Rattle.book.proofs.RestingTurns.{getD-alike}
 use Rattle.calls.specs.Call.{Call}
 use Rattle.calls.specs.Call as call
 use Rattle.calls.specs.Order.{tests, lineFor, fitBook, lineNumber, openTests, modeTests}
-use Rattle.calls.specs.Did.{did, effect}
+use Rattle.calls.specs.Result.{resultOf, effect}
 use Rattle.promise.specs.Past.{nothingYet, justOpened}
 use Rattle.promise.specs.Run.{Gateway, freshWith, lineAt}
 use Rattle.promise.specs.Ours.{after}
 use Rattle.promise.specs.Demand3.{Begins}
 use Rattle.promise.proofs.Fresh.{Unused, opened-unused}
 use Rattle.promise.proofs.Phases.{Open, Sound, unused, sound-after}
-use Rattle.promise.proofs.Own.{Passes, call-accepted, line-left}
-use Rattle.promise.proofs.Aside.{stepped-open, stepped-modes}
-use Rattle.promise.proofs.Lift.{fresh-sound}
+use Rattle.promise.proofs.OwnLine.{Passes, call-accepted, line-left}
+use Rattle.promise.proofs.LineStays.{stepped-open, stepped-modes}
+use Rattle.promise.proofs.StepsKeep.{fresh-sound}
 
 -- a request for m that is not refused
 asked-modem : (m : Modes) (time : ℕ) → verdict (askTests m modem time) ≡ Pass → outcome m (ask modem time) .modes .local ≡ modem
-unfolding asking moved
+unfolding askStep moved
 asked-modem m time e = rw e refl
 
 module _ (store : List ℕ) (long : 42240 ≤ length store) (i : ℕ) (small : i < 4) (s : Settings) (fit : settingsFit (s .identifier) (s .kind) ≡ true) (relay : s .relay ≡ true)
@@ -88,7 +88,7 @@ module _ (store : List ℕ) (long : 42240 ≤ length store) (i : ℕ) (small : i
   unfolding lineFor
   line = line-left sound asks out refl ask-passes
 
-  pub begins : Begins did g i s time then out
+  pub begins : Begins resultOf g i s time then out
   unfolding effect
   begins =
       let l = lineAt h i in

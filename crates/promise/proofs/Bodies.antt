@@ -35,7 +35,7 @@ use Rattle.line.specs.declared.Line.{Line}
 use Rattle.book.proofs.Facts.{line-fits}
 use Rattle.calls.specs.Call as call
 use Rattle.calls.specs.Order.{tests, lineFor, fitBook, lineNumber, closeTests}
-use Rattle.calls.specs.Did.{effect, slipOf}
+use Rattle.calls.specs.Result.{effect, slipOf}
 use Rattle.gateway.proofs.Slips.{slip-passes}
 use Rattle.promise.specs.Build.{leftBy, ours}
 use Rattle.promise.specs.Past.{nothingYet}
@@ -43,7 +43,7 @@ use Rattle.promise.specs.Run.{Gateway, accepts, given, lineAt}
 use Rattle.promise.specs.Ours.{does}
 use Rattle.promise.specs.Demand2.{Back, Ready}
 use Rattle.promise.proofs.Phases.{Sound, closed}
-use Rattle.promise.proofs.Own.{Passes, call-accepted, octets-given}
+use Rattle.promise.proofs.OwnLine.{Passes, call-accepted, octets-given}
 
 -- what is written into an output is its first octets
 left-back : (v : Verdict) (octets out : List ℕ) (read : List ℕ → Answer) {says : Answer} → v ≡ Pass → read octets ≡ says → Back (leftBy v octets out) octets read says
@@ -76,17 +76,17 @@ pub ready-sound : {g : Gateway} {i : ℕ} → Ready g i → Sound i 0 0 g nothin
 ready-sound r = record { fits = r .fits; shaped = r .shaped; long = r .long; phase = closed }
 
 -- "Closing writes a slip"
-module _ {g : Gateway} {i : ℕ} (r : Ready g i) (out : List ℕ) (room : 12 ≤ length out) where
+module _ {g : Gateway} {i : ℕ} (r : Ready g i) (out : List ℕ) (space : 12 ≤ length out) where
   abbrev l : Line
   l = lineAt g i
 
   close-passes : Passes g (call.closing i) out
   unfolding tests closeTests
-  close-passes = passes (fitBook (g .book) ∷ lineNumber i ∷ closeTests l (length out)) (r .fits, (le-leb i 3 (omega (arith, r .small)), (r .opened, (le-leb 12 (length out) room, tt))))
+  close-passes = passes (fitBook (g .book) ∷ lineNumber i ∷ closeTests l (length out)) (r .fits, (le-leb i 3 (omega (arith, r .small)), (r .opened, (le-leb 12 (length out) space, tt))))
 
   fitting : verdict (slip.writeTests (slipOf l) (length out)) ≡ Pass
   unfolding closeTests
-  fitting = slip-passes l (length out) (line-fits (g .book) (r .fits) i) (passes (closeTests l (length out)) (r .opened, (le-leb 12 (length out) room, tt)))
+  fitting = slip-passes l (length out) (line-fits (g .book) (r .fits) i) (passes (closeTests l (length out)) (r .opened, (le-leb 12 (length out) space, tt)))
 
   written : given (does g (call.closing i) out) ≡ slipOctets (slipOf l)
   unfolding lineFor effect

@@ -12,8 +12,8 @@ use Rattle.ground.specs.declared.Verdict.the-variants.{Pass}
 use Rattle.ground.proofs.Verdicts.{passes}
 use Rattle.mode.specs.Given.{modem}
 use Rattle.mode.specs.Moved.{moved, trying}
-use Rattle.mode.specs.Indication.{hearTests, heardMode, hearing}
-use Rattle.mode.specs.Request.{askTests, asking}
+use Rattle.mode.specs.Indication.{hearTests, heardMode, hearStep}
+use Rattle.mode.specs.Request.{askTests, askStep}
 use Rattle.mode.specs.TableC2.{permitted}
 use Rattle.mode.specs.Acts.{Act, hear, ask, outcome}
 use Rattle.mode.specs.declared.Modes.{Modes}
@@ -22,27 +22,27 @@ use Rattle.mode.proofs.Permitted.{indication-permitted}
 use Rattle.mode.proofs.Left.{leaving-marks, gone-stays}
 use Rattle.line.specs.declared.Line.{Line}
 use Rattle.book.specs.Book.{lineOf}
-use Rattle.book.proofs.Apart.{line-same}
+use Rattle.book.proofs.OtherLines.{line-same}
 use Rattle.calls.specs.Call as call
 use Rattle.calls.specs.Order.{fitBook, lineNumber, isOpen}
-use Rattle.calls.specs.Did.{Did}
-use Rattle.calls.proofs.Dids.{settles, moved-did}
+use Rattle.calls.specs.Result.{CallResult}
+use Rattle.calls.proofs.Results.{settles, moved-did}
 use Rattle.line.specs.Mode.{steppedTo}
 use Rattle.promise.specs.Build.{ours}
 use Rattle.promise.specs.Run.{Gateway, accepts, lineAt, Relays}
 use Rattle.promise.specs.Ours.{does, after}
 use Rattle.promise.specs.Demand2.{Ready, Gone, Demand2}
-use Rattle.promise.proofs.Aside.{stepped-modes}
+use Rattle.promise.proofs.LineStays.{stepped-modes}
 use Rattle.promise.proofs.Bodies.{connect-written, connect-read, break-written, break-read, slip-read, slip-written}
 use Rattle.promise.proofs.Packets.{sending-writes, empty-writes, arrival-entitled}
 
 -- S after an indication that is heard, and after a request
-heard-local : (m : Modes) (k time : ℕ) → verdict (hearTests m k time) ≡ Pass → hearing m k time .modes .local ≡ heardMode m k
-unfolding hearing moved trying
+heard-local : (m : Modes) (k time : ℕ) → verdict (hearTests m k time) ≡ Pass → hearStep m k time .modes .local ≡ heardMode m k
+unfolding hearStep moved trying
 heard-local m k time e = rw e (heard-by (λ (n : Modes). n .local ≡ heardMode m k) m k time (λ t a. refl) (λ t. refl))
 
-asked-local : (m : Modes) (k time : ℕ) → verdict (askTests m k time) ≡ Pass → asking m k time .modes .local ≡ k
-unfolding asking moved
+asked-local : (m : Modes) (k time : ℕ) → verdict (askTests m k time) ≡ Pass → askStep m k time .modes .local ≡ k
+unfolding askStep moved
 asked-local m k time e = rw e refl
 
 module _ {g : Gateway} {i : ℕ} (r : Ready g i) (a : Act) (out : List ℕ) where
@@ -56,11 +56,11 @@ module _ {g : Gateway} {i : ℕ} (r : Ready g i) (a : Act) (out : List ℕ) wher
   modes-left : lineAt (after g (call.mode i a) out) i .modes ≡ outcome m a .modes
   modes-left =
       let l = steppedTo (lineAt g i) (outcome m a .modes) (outcome m a .channels) in
-      ap (λ (d : Did). lineOf (d .book) i .modes) (sym (moved-did (g .book) i a (g .store) out there))
+      ap (λ (d : CallResult). lineOf (d .book) i .modes) (sym (moved-did (g .book) i a (g .store) out there))
       ∙ ap (λ (x : Line). x .modes) (line-same (g .book) (r .shaped) i (r .small) l) ∙ stepped-modes (lineAt g i) (outcome m a .modes) (outcome m a .channels)
 
   answer-said : does g (call.mode i a) out .answer ≡ outcome m a .said
-  answer-said = ap (λ (d : Did). d .answer) (sym (moved-did (g .book) i a (g .store) out there))
+  answer-said = ap (λ (d : CallResult). d .answer) (sym (moved-did (g .book) i a (g .store) out there))
 
   said : outcome m a .said .number ≡ 0 → accepts (does g (call.mode i a) out) ≡ true
   said e = eq-eqb _ _ (ap (λ (x : Answer). x .number) answer-said ∙ e)
@@ -104,9 +104,9 @@ ours-demand2 =
       break-back = break-written;
       break-read = break-read;
       slip-read = slip-read;
-      slip-back = λ g i r out room. slip-written r out room;
-      sending-back = λ g i r inside channel v rank few out room. sending-writes r inside channel out v rank few room;
-      empty-back = λ g i r inside channel c out room. empty-writes r inside channel out c room;
+      slip-back = λ g i r out space. slip-written r out space;
+      sending-back = λ g i r inside channel v rank few out space. sending-writes r inside channel out v rank few space;
+      empty-back = λ g i r inside channel c out space. empty-writes r inside channel out c space;
       inside = arrival-entitled;
       moves = λ g i r a out. (answer-said r a out, modes-left r a out);
       hears = λ g i r k time e out. hears r k time e out;

@@ -13,13 +13,13 @@ use Rattle.sending.specs.Sending.{heldCount}
 use Rattle.flow.specs.Flow.{Full, waiting}
 use Rattle.line.specs.Fit.{largest}
 use Rattle.line.specs.Line.{sendingOf}
-use Rattle.relay.specs.Asked.{reliable}
+use Rattle.relay.specs.RelayTests.{reliable}
 use Rattle.relay.proofs.Lines.{channel-span}
 use Rattle.calls.specs.Call.{Call}
 use Rattle.calls.specs.Call as call
 use Rattle.calls.specs.Order.{lineFor}
-use Rattle.calls.specs.Did.{did, effect}
-use Rattle.laws.proofs.Own.{own-values}
+use Rattle.calls.specs.Result.{resultOf, effect}
+use Rattle.laws.proofs.OwnLine.{own-values}
 use Rattle.promise.specs.Build.{Does, ours}
 use Rattle.promise.specs.Past.{Packet, Past, tookPast, handedPast, wrotePast, heardPast}
 use Rattle.promise.specs.Run.{Gateway, accepts, lineAt, Relays, rankedMark, Honest, calls, stay, here, there}
@@ -29,12 +29,12 @@ use Rattle.promise.specs.Ours.{does, after, Provided, Goes, Run, reportB
 use Rattle.promise.specs.Demand3.{Serves, Served, Demand3}
 use Rattle.promise.proofs.Ends.{End, turn}
 use Rattle.promise.proofs.Phases.{is-open}
-use Rattle.promise.proofs.Calls.{LeftIn, took-kept, handed-kept, sent-kept, wrote-kept}
+use Rattle.promise.proofs.CallsKeep.{LeftIn, took-kept, handed-kept, sent-kept, wrote-kept}
 use Rattle.promise.proofs.Begins.{begins}
 use Rattle.promise.proofs.Promised as line
-use Rattle.promise.proofs.Own.{Passes, call-passes, call-accepted}
-use Rattle.promise.proofs.Covers.{call-adds}
-use Rattle.promise.proofs.Lift.{Pair, run-kept, run-on, arrives-here, arrival-tests, heard-kept}
+use Rattle.promise.proofs.OwnLine.{Passes, call-passes, call-accepted}
+use Rattle.promise.proofs.NoCallLeftOut.{call-adds}
+use Rattle.promise.proofs.StepsKeep.{Pair, run-kept, run-on, arrives-here, arrival-tests, heard-kept}
 use Rattle.promise.proofs.Accepts.{report-passes, take-passes, send-passes, held-rank, hand-passes, empty-passes}
 use Rattle.promise.proofs.Drains.{drains, hands-go, hands-keep}
 use Rattle.promise.proofs.Finish.{finishes}
@@ -47,7 +47,7 @@ turned-goes (here w s) = there (turned-goes w) s
 turned-goes (there w s) = here (turned-goes w) s
 
 pub turned-run : {f : Does} {i j identifier kind : ℕ} {g h : Gateway} {p q : Past} → runs.Run f i j identifier kind g p h q → runs.Run f j i identifier kind h q g p
-turned-run r = record { first = r .second; second = r .first; lines = (r .lines .1, r .lines .0); long = (r .long .1, r .long .0); goes = turned-goes (r .goes) }
+turned-run r = record { store1 = r .store2; store2 = r .store1; lines = (r .lines .1, r .lines .0); long = (r .long .1, r .long .0); goes = turned-goes (r .goes) }
 
 module _ {i j identifier kind : ℕ} {g h : Gateway} {p q : Past} (r : Run i j identifier kind g p h q) where
   abbrev k : Pair i j identifier kind g p h q
@@ -85,12 +85,12 @@ module _ {i j identifier kind : ℕ} {g h : Gateway} {p q : Past} (r : Run i j i
     -- message R is handed out where it is stored
     pub hand-accepted : InRelay h j q → Full (receivesBy h j q channel .stored (receivesBy h j q channel .R)) → (out : List ℕ) → largest ≤ length out
         → accepts (does h (call.handOut j channel) out) ≡ true
-    hand-accepted a full out room = call-accepted h (call.handOut j channel) out (hand-passes (k .yours) a (turn (k .joined)) out channel v full room)
+    hand-accepted a full out space = call-accepted h (call.handOut j channel) out (hand-passes (k .yours) a (turn (k .joined)) out channel v full space)
 
     -- so none is refused while any message waits, once all have come
     pub none-refused : InRelay h j q → AllCame channel g i p q → receivesBy h j q channel .R < sendsBy g i p channel .S → (out : List ℕ) → largest ≤ length out
         → accepts (does h (call.handOut j channel) out) ≡ true
-    none-refused a came l out room = hand-accepted a (line.all-have (k .joined) channel v came (receivesBy h j q channel .R) l (omega arith)) out room
+    none-refused a came l out space = hand-accepted a (line.all-have (k .joined) channel v came (receivesBy h j q channel .R) l (omega arith)) out space
 
     -- what is unacknowledged can be sent: the report is given, each rank below it is written, and each held message has one
     pub report-counts : InRelay g i p → reportBy g i channel ≡ heldCount (sendingOf (lineAt g i) channel)
@@ -99,8 +99,8 @@ module _ {i j identifier kind : ℕ} {g h : Gateway} {p q : Past} (r : Run i j i
         ap (λ (vs : List ℕ). getD vs 0 0) (own-values (call.report i channel) (g .book) (g .store) [] (report-passes (k .mine) a (k .joined) [] channel v))
 
     pub sends-accepted : InRelay g i p → (rank : ℕ) → rank < reportBy g i channel → (out : List ℕ) → 144 ≤ length out → accepts (does g (call.sending i channel rank) out) ≡ true
-    sends-accepted a rank l out room =
-        call-accepted g (call.sending i channel rank) out (send-passes (k .mine) a (k .joined) out channel v rank (omega (arith, report-counts a, l)) room)
+    sends-accepted a rank l out space =
+        call-accepted g (call.sending i channel rank) out (send-passes (k .mine) a (k .joined) out channel v rank (omega (arith, report-counts a, l)) space)
 
     pub each-has-rank : InRelay g i p → (n : ℕ) → sendsBy g i p channel .h ≤ n → n < sendsBy g i p channel .S → Full (sendsBy g i p channel .held n)
         → (rank : ℕ) × (rank < reportBy g i channel) × (rankedMark g i channel rank .number ≡ n)
@@ -154,28 +154,28 @@ promised r = record { there = carried r; back = carried (turned-run r) }
 
 -- an accepted call that leaves the line in modem relay
 serves : {i identifier kind : ℕ} {g : Gateway} {p : Past} {f : End} (c : Call) (out : List ℕ) → Passes g c out → p .opened ≡ true → LeftIn i identifier kind f (after g c out) p
-    → Serves did g i c out
+    → Serves resultOf g i c out
 serves {g = g} c out pass o left = record { accepted = call-accepted g c out pass; opened = is-open (left .1 .0) o .opened; inside = left .0 }
 
 -- the line is served
-all-served : {i j identifier kind : ℕ} {g h : Gateway} {p q : Past} → Run i j identifier kind g p h q → InRelay g i p → Served did i j identifier kind g p h q
+all-served : {i j identifier kind : ℕ} {g h : Gateway} {p q : Past} → Run i j identifier kind g p h q → InRelay g i p → Served resultOf i j identifier kind g p h q
 all-served {i} {g = g} {p = p} r a =
     let k = run-kept r in
     let s = k .mine in
     let o = a .0 in
     record {
-      takes = λ channel v m some few below room out.
-          let pass = take-passes s a (k .joined) out channel v m some few below room in
+      takes = λ channel v m some few below space out.
+          let pass = take-passes s a (k .joined) out channel v m some few below space in
           serves {p = tookPast p channel m} (call.taking i channel m) out pass o (took-kept s o (k .joined) out channel m pass);
       ranks = λ channel v n low high full. each-has-rank r channel v a n low high full;
-      sends = λ channel v rank l out room.
-          let pass = call-passes g (call.sending i channel rank) out (sends-accepted r channel v a rank l out room) in
+      sends = λ channel v rank l out space.
+          let pass = call-passes g (call.sending i channel rank) out (sends-accepted r channel v a rank l out space) in
           serves {p = wrotePast p _} (call.sending i channel rank) out pass o (sent-kept s o (k .joined) out channel rank pass);
-      empties = λ channel c out room.
-          let pass = empty-passes s a (k .joined) out channel c room in
+      empties = λ channel c out space.
+          let pass = empty-passes s a (k .joined) out channel c space in
           serves {p = wrotePast p _} (call.empty i channel) out pass o (wrote-kept s o (k .joined) out channel pass);
-      hands = λ channel v full out room.
-          let pass = hand-passes s a (k .joined) out channel v full room in
+      hands = λ channel v full out space.
+          let pass = hand-passes s a (k .joined) out channel v full space in
           serves {p = handedPast p channel _} (call.handOut i channel) out pass o (handed-kept s o (k .joined) out channel pass);
       arrives = λ x packet honest out. (
         arrives-here s (k .yours) o (k .joined) x packet (a .1) honest out,

@@ -9,25 +9,25 @@ use mathlib.Core.Logic.{_≢_}
 use native.Mathlib.Omega.{arith}
 use lib.ListN.{length}
 use lib.Seq.{take-all}
-use Rattle.flow.specs.Flow.{Message, Handed, Have}
+use Rattle.flow.specs.Flow.{Message, HandOutMove, Have}
 use Rattle.flow.proofs.Flows.{handed-grows}
-use Rattle.relay.specs.Asked.{reliable}
+use Rattle.relay.specs.RelayTests.{reliable}
 use Rattle.calls.specs.Call.{Call}
 use Rattle.calls.specs.Call as call
 use Rattle.calls.specs.Order.{lineFor}
-use Rattle.calls.specs.Did.{effect}
+use Rattle.calls.specs.Result.{effect}
 use Rattle.promise.specs.Past.{Past, handedPast}
 use Rattle.promise.specs.Run.{Gateway, given, handed, calls, there}
 use Rattle.promise.specs.Promise.{sendsBy, receivesBy, InRelay, AllCame, outAt, done, next, Ample}
 use Rattle.promise.specs.Ours.{does, after, Adds, Step, Goes, HandsOut, AllOut}
 use Rattle.promise.proofs.Ends.{End, Joined, turn, got}
-use Rattle.promise.proofs.Sent.{more-other}
-use Rattle.promise.proofs.Got.{hands}
+use Rattle.promise.proofs.SendingAnew.{more-other}
+use Rattle.promise.proofs.ReceivingAnew.{hands}
 use Rattle.promise.proofs.Promised.{all-have}
 use Rattle.promise.proofs.Phases.{endOf, Sound, is-open, end-now}
-use Rattle.promise.proofs.Own.{Passes, call-passes, call-accepted, line-left, store-left}
-use Rattle.promise.proofs.Calls.{LeftIn, hand-asks, joined-open, handed-kept}
-use Rattle.promise.proofs.Lift.{Pair, turned, step-kept}
+use Rattle.promise.proofs.OwnLine.{Passes, call-passes, call-accepted, line-left, store-left}
+use Rattle.promise.proofs.CallsKeep.{LeftIn, hand-asks, joined-open, handed-kept}
+use Rattle.promise.proofs.StepsKeep.{Pair, turned, step-kept}
 use Rattle.promise.proofs.Accepts.{hand-passes}
 
 -- a call that leaves the line in modem relay is a step
@@ -37,13 +37,13 @@ relay-step o c out o′ w a = calls o c out (is-open (w .1 .0) o′ .opened) (λ
 
 -- what a hand-out moves
 handed-shows : {j identifier kind : ℕ} {h : Gateway} {q : Past} → Sound j identifier kind h q → (o : q .opened ≡ true) → {f : End} → Joined (endOf h j q) f → (out : List ℕ) (c : ℕ)
-    → Passes h (call.handOut j c) out → (m : Message) → Handed (receivesBy h j q c) (receivesBy (after h (call.handOut j c) out) j (handedPast q c m) c)
+    → Passes h (call.handOut j c) out → (m : Message) → HandOutMove (receivesBy h j q c) (receivesBy (after h (call.handOut j c) out) j (handedPast q c m) c)
 unfolding lineFor effect
 handed-shows {j} {h = h} {q} s o k out c pass m =
     let d = call.handOut j c in
     let now = ap (λ (e : End). got e c) (end-now h j q o refl refl) in
     let then = ap (λ (e : End). got e c) (end-now (after h d out) j (handedPast q c m) o (line-left s d out refl pass) (store-left s d out refl pass)) in
-    transport (λ t. Handed (sym now t) (sym then t)) (hands c (length out) (hand-asks h j out c pass) (joined-open s o k out))
+    transport (λ t. HandOutMove (sym now t) (sym then t)) (hands c (length out) (hand-asks h j out c pass) (joined-open s o k out))
 
 module _ {i j identifier kind : ℕ} (c : ℕ) (v : reliable c ≡ true) (outs : ℕ → List ℕ) where
   -- a hand-out that is accepted

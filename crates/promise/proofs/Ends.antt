@@ -26,7 +26,7 @@ use Rattle.line.specs.Shape.{Shaped}
 use Rattle.line.specs.declared.Line.{Line}
 use Rattle.line.proofs.Keeps.{line-ok, sending-side, receiving-side}
 use Rattle.mode.specs.Given.{modem}
-use Rattle.relay.specs.Asked.{reliable}
+use Rattle.relay.specs.RelayTests.{reliable}
 use Rattle.channel.proofs.Windows.{window-narrow}
 use Rattle.promise.specs.Past.{Mark, Packet, Past}
 use Rattle.promise.specs.Run.{Each, bound}
@@ -55,7 +55,7 @@ abbrev pub got : End → ℕ → Receives
 got e channel = receivesOf (e .store) (e .i) (e .line) channel
 
 -- a message of a reliable channel that has come to an end; `views` are what it shows
-pub record Came (views : ℕ → Receives) (m : Mark) : Type 0 where
+pub record HasCome (views : ℕ → Receives) (m : Mark) : Type 0 where
   pub served : reliable (m .channel) ≡ true
   pub have : Have (views (m .channel)) (m .number)
 
@@ -79,7 +79,7 @@ pub record Said (identifier kind : ℕ) (taken : ℕ → List Message) (views : 
   pub typed : headAt (k .octets) .kind ≡ kind
   -- they are the 14 bits of the full numbers, and those are true
   pub words : ackList (acksAt (k .octets)) ≡ map markWord (k .acks)
-  pub acks : Each (Came views) (k .acks)
+  pub acks : Each (HasCome views) (k .acks)
   pub names : Names views (headAt (k .octets) .channel) (headAt (k .octets) .base) (k .names)
   pub carries : Carries taken (headAt (k .octets) .channel) (headAt (k .octets) .number) (payloadOf (k .octets)) (k .carries)
 
@@ -99,8 +99,8 @@ pub record Whole (e : End) : Type 0 where
   pub small : e .i < 4
   pub long : 42240 ≤ length (e .store)
   pub owed : owedOf (e .line .owed) ≡ map markWord (e .past .owes)
-  pub owes : Each (Came (got e)) (e .past .owes)
-  pub came : Each (Came (got e)) (e .past .came)
+  pub owes : Each (HasCome (got e)) (e .past .owes)
+  pub came : Each (HasCome (got e)) (e .past .came)
   pub said : Each (Says e) (e .past .wrote)
 
 -- what one end has sent and the other has got
@@ -135,7 +135,7 @@ relay-sides l fits opened inside =
 
 -- What was said stays true as the end goes on.
 module _ {u v : ℕ → Receives} (g : (c : ℕ) → reliable c ≡ true → Grows (u c) (v c)) where
-  pub came-on : (m : Mark) → Came u m → Came v m
+  pub came-on : (m : Mark) → HasCome u m → HasCome v m
   came-on m k = record { served = k .served; have = g (m .channel) (k .served) .have (m .number) (k .have) }
 
   names-on : {channel base : ℕ} {ms : List Mark} → Names u channel base ms → Names v channel base ms

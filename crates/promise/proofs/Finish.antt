@@ -13,14 +13,14 @@ use Rattle.sending.specs.Sending.{heldCount}
 use Rattle.flow.specs.Flow.{Sends, Full}
 use Rattle.flow.proofs.Flows.{none-or}
 use Rattle.line.specs.Line.{sendingOf}
-use Rattle.relay.specs.Asked.{reliable}
+use Rattle.relay.specs.RelayTests.{reliable}
 use Rattle.writing.specs.Write.{wroteLine}
 use Rattle.writing.specs.Send.{ranked, heldIn}
 use Rattle.channel.proofs.Windows.{window-narrow}
 use Rattle.calls.specs.Call.{Call}
 use Rattle.calls.specs.Call as call
 use Rattle.calls.specs.Order.{lineFor}
-use Rattle.calls.specs.Did.{effect}
+use Rattle.calls.specs.Result.{effect}
 use Rattle.promise.specs.Past.{Mark, Packet, Past, wrotePast, heardPast}
 use Rattle.promise.specs.Run.{Gateway, lineAt, Each, none, also, Recent, Honest, rankedMark, baseMark, sentPacket, emptyPacket, sent, wrote, heard, stay, here, there}
 use Rattle.promise.specs.Promise.{sendsBy, InRelay, AllCame}
@@ -28,9 +28,9 @@ use Rattle.promise.specs.Ours.{does, after, Adds, Goes, CanFinish}
 use Rattle.promise.proofs.Ends.{End, Joined, turn, mark}
 use Rattle.promise.proofs.Ends as ends
 use Rattle.promise.proofs.Phases.{endOf, Sound, end-now}
-use Rattle.promise.proofs.Own.{Passes, call-accepted, line-left, store-left}
-use Rattle.promise.proofs.Calls.{LeftIn, joined-open, sent-kept, wrote-kept}
-use Rattle.promise.proofs.Lift.{Pair, turned, step-kept, arrives-here, heard-kept}
+use Rattle.promise.proofs.OwnLine.{Passes, call-accepted, line-left, store-left}
+use Rattle.promise.proofs.CallsKeep.{LeftIn, joined-open, sent-kept, wrote-kept}
+use Rattle.promise.proofs.StepsKeep.{Pair, turned, step-kept, arrives-here, heard-kept}
 use Rattle.promise.proofs.Accepts.{held-rank, send-passes, empty-passes}
 use Rattle.promise.proofs.Drains.{relay-step, drains, hands-go}
 

@@ -32,13 +32,13 @@ use Rattle.mode.specs.declared.Channels.{Channels}
 use Rattle.mode.specs.declared.Channels.the-variants.{Stay, Fresh, Emptied}
 use Rattle.store.specs.declared.Way.{Way}
 use Rattle.store.specs.declared.Way.the-variants as way
-use Rattle.relay.specs.Asked.{reliable}
+use Rattle.relay.specs.RelayTests.{reliable}
 use Rattle.channel.proofs.Windows.{window-narrow}
 use Rattle.promise.specs.Past.{Past}
 use Rattle.promise.specs.Run.{Each, none}
-use Rattle.promise.specs.Ends.{roomsOf, sendsOf, receivesOf}
+use Rattle.promise.specs.Ends.{slotsOf, sendsOf, receivesOf}
 use Rattle.promise.proofs.Lists.{each-map}
-use Rattle.promise.proofs.Views.{SameRooms, sends-kept, receives-kept}
+use Rattle.promise.proofs.Views.{SameSlots, sends-kept, receives-kept}
 use Rattle.promise.proofs.Ends.{End, Said, Sides, Whole, Joined, sent, got, sends-ok, gets-ok, came-on, said-on, grows-none, flow-as}
 
 -- both channels as they start, and nothing owed
@@ -98,15 +98,15 @@ module _ {l : Line} (u : Unused l) where
 
   pub unused-sends : (store : List ℕ) (i c : ℕ) → sendsOf store i l c ≡ noSends
   unused-sends store i c =
-      let rooms = roomsOf store i way.Sending c in
-      let f = fun-ext (λ n. message-none (windowOf c) rooms (freshSending .sizes) 0 0 (n - 0) (bit-past 0 0 (n - 0) (pow-pos 0) (omega arith))) in
-      ap (sends (windowOf c) rooms) (u .sending c) ∙ (λ t. record { S = 0; h = 0; held = f t })
+      let slots = slotsOf store i way.Sending c in
+      let f = fun-ext (λ n. message-none (windowOf c) slots (freshSending .sizes) 0 0 (n - 0) (bit-past 0 0 (n - 0) (pow-pos 0) (omega arith))) in
+      ap (sends (windowOf c) slots) (u .sending c) ∙ (λ t. record { S = 0; h = 0; held = f t })
 
   pub unused-receives : (store : List ℕ) (i c : ℕ) → receivesOf store i l c ≡ noReceives
   unused-receives store i c =
-      let rooms = roomsOf store i way.Receiving c in
-      let f = fun-ext (λ n. message-none (windowOf c) rooms (freshReceiving .sizes) 0 0 (n - 0) (bit-past 0 0 (n - 0) (pow-pos 0) (omega arith))) in
-      ap (receives (windowOf c) rooms) (u .receiving c) ∙ (λ t. record { R = 0; stored = f t })
+      let slots = slotsOf store i way.Receiving c in
+      let f = fun-ext (λ n. message-none (windowOf c) slots (freshReceiving .sizes) 0 0 (n - 0) (bit-past 0 0 (n - 0) (pow-pos 0) (omega arith))) in
+      ap (receives (windowOf c) slots) (u .receiving c) ∙ (λ t. record { R = 0; stored = f t })
 
 -- the past of a line that nothing has become of
 abbrev pub noPast : Bool → Past
@@ -188,22 +188,22 @@ module _ {e f : End} (j : Joined e f) (l : Line) (store : List ℕ) (b : Bool) w
       (λ c r. unused-receives v store (e .i) c ∙ sym (unused-receives u (e .store) (e .i) c))
       (rw nothing none)
 
--- the line stays in modem relay, and changes its modes at most; what others do to the store leaves its rooms as they were
+-- the line stays in modem relay, and changes its modes at most; what others do to the store leaves its slots as they were
 pub moded-joined : {e f : End} (j : Joined e f) (m : Modes) (store : List ℕ) → lineFits (steppedTo (e .line) m Stay) ≡ true → 42240 ≤ length store
-    → ((w : Way) (c : ℕ) → reliable c ≡ true → SameRooms (e .i) w c (e .store) store)
+    → ((w : Way) (c : ℕ) → reliable c ≡ true → SameSlots (e .i) w c (e .store) store)
     → Joined (record { line = steppedTo (e .line) m Stay; i = e .i; store = store; past = e .past }) f
 unfolding steppedTo
-moded-joined {e} j m store fits long rooms =
+moded-joined {e} j m store fits long slots =
     let l = steppedTo (e .line) m Stay in
     let k = j .mine in
     same-joined j l store (e .past .opened) fits
     (record { sending1 = k .shaped .sending1; sending2 = k .shaped .sending2; receiving1 = k .shaped .receiving1; receiving2 = k .shaped .receiving2 })
     (record { sending = k .sides .sending; receiving = k .sides .receiving }) long refl
-    (λ c r. sends-kept (e .store) store (e .i) (e .line) l c (sends-ok (k .sides) c) refl (rooms way.Sending c r))
-    (λ c r. receives-kept (e .store) store (e .i) (e .line) l c (gets-ok (k .sides) c) refl (rooms way.Receiving c r))
+    (λ c r. sends-kept (e .store) store (e .i) (e .line) l c (sends-ok (k .sides) c) refl (slots way.Sending c r))
+    (λ c r. receives-kept (e .store) store (e .i) (e .line) l c (gets-ok (k .sides) c) refl (slots way.Receiving c r))
     (k .said)
 
-pub beside-joined : {e f : End} (j : Joined e f) (store : List ℕ) → 42240 ≤ length store → ((w : Way) (c : ℕ) → reliable c ≡ true → SameRooms (e .i) w c (e .store) store)
+pub beside-joined : {e f : End} (j : Joined e f) (store : List ℕ) → 42240 ≤ length store → ((w : Way) (c : ℕ) → reliable c ≡ true → SameSlots (e .i) w c (e .store) store)
     → Joined (record { line = e .line; i = e .i; store = store; past = e .past }) f
 unfolding steppedTo
 beside-joined {e} j = λ store. moded-joined j (e .line .modes) store (j .mine .fits)

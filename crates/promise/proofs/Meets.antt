@@ -24,25 +24,25 @@ use Rattle.mode.specs.Acts.{Act, outcome}
 use Rattle.mode.specs.Acts as act
 use Rattle.mode.specs.Given.{modem}
 use Rattle.mode.specs.Moved.{moved}
-use Rattle.mode.specs.Request.{asking}
+use Rattle.mode.specs.Request.{askStep}
 use Rattle.mode.specs.declared.Modes.{Modes}
-use Rattle.relay.specs.Asked.{reliable}
+use Rattle.relay.specs.RelayTests.{reliable}
 use Rattle.book.specs.Book.{freshBook, openIn}
 use Rattle.book.proofs.Fresh.{fresh-fits}
 use Rattle.book.proofs.RestingTurns.{getD-alike}
 use Rattle.calls.specs.Call as call
 use Rattle.calls.specs.Order.{tests, lineFor, fitBook, lineNumber, openTests}
-use Rattle.calls.specs.Did.{effect}
+use Rattle.calls.specs.Result.{effect}
 use Rattle.promise.specs.Past.{Past, nothingYet, justOpened, more}
 use Rattle.promise.specs.Ours.{after, Step, Run}
 use Rattle.promise.specs.Run.{Gateway, lineAt, Relays, moded, took, opens, calls, stay, here, there, freshWith}
 use Rattle.promise.specs.Promise.{InRelay}
-use Rattle.promise.proofs.Sent.{more-here}
+use Rattle.promise.proofs.SendingAnew.{more-here}
 use Rattle.promise.proofs.Fresh.{Unused, opened-unused, stepped-unused}
-use Rattle.promise.proofs.Own.{Passes, call-accepted, line-left}
-use Rattle.promise.proofs.Calls.{took-kept}
-use Rattle.promise.proofs.Aside.{mode-line, mode-open, stepped-modes}
-use Rattle.promise.proofs.Lift.{Pair, turned, step-kept, fresh-pair, run-kept, run-on}
+use Rattle.promise.proofs.OwnLine.{Passes, call-accepted, line-left}
+use Rattle.promise.proofs.CallsKeep.{took-kept}
+use Rattle.promise.proofs.LineStays.{mode-line, mode-open, stepped-modes}
+use Rattle.promise.proofs.StepsKeep.{Pair, turned, step-kept, fresh-pair, run-kept, run-on}
 use Rattle.promise.proofs.Accepts.{taking-passes}
 use Rattle.promise.proofs.Drains.{relay-step}
 use Rattle.promise.proofs.Finish.{finishes}
@@ -79,7 +79,7 @@ module _ (identifier kind : ℕ) (fitting : settingsFit identifier kind ≡ true
     related = after opened (call.mode i request) []
 
     inside : Relays related i
-    unfolding asking moved
+    unfolding askStep moved
     inside =
         let l = lineAt opened i in
         ap (λ (x : Line). x .modes .local) (mode-line (pair .mine) refl (pair .joined) request [])
@@ -108,14 +108,14 @@ module _ (identifier kind : ℕ) (fitting : settingsFit identifier kind ≡ true
     pub yours : InRelay there j justOpened
     pub unused : Unused (lineAt here i)
 
-  pub both-there : (i j : ℕ) (first second : List ℕ) → (i < 4) × (j < 4) → (42240 ≤ length first) × (42240 ≤ length second) → Met i j
-  both-there i j first second lines long =
-      let k = fresh-pair i j identifier kind first second lines long in
+  pub both-there : (i j : ℕ) (store1 store2 : List ℕ) → (i < 4) × (j < 4) → (42240 ≤ length store1) × (42240 ≤ length store2) → Met i j
+  both-there i j store1 store2 lines long =
+      let k = fresh-pair i j identifier kind store1 store2 lines long in
       let n = turned (there-now k) in
       record {
         here = related k;
         there = related n;
-        run = record { first = first; second = second; lines = lines; long = long; goes = there (there (here (here stay (opening k)) (asking-relay k)) (opening n)) (asking-relay n) };
+        run = record { store1 = store1; store2 = store2; lines = lines; long = long; goes = there (there (here (here stay (opening k)) (asking-relay k)) (opening n)) (asking-relay n) };
         mine = (refl, inside k);
         yours = (refl, inside n);
         unused = fresh-line k;
@@ -131,10 +131,10 @@ module _ (identifier kind : ℕ) (fitting : settingsFit identifier kind ≡ true
     pub taken : mine .taken channel ≡ m ∷ []
     pub handed : yours .handed channel ≡ m ∷ []
 
-  pub message-comes : (i j : ℕ) (first second : List ℕ) → (i < 4) × (j < 4) → (42240 ≤ length first) × (42240 ≤ length second)
+  pub message-comes : (i j : ℕ) (store1 store2 : List ℕ) → (i < 4) × (j < 4) → (42240 ≤ length store1) × (42240 ≤ length store2)
       → (channel : ℕ) → reliable channel ≡ true → (m : Message) → 0 < length m → length m ≤ largest → Comes i j channel m
-  message-comes i j first second lines long channel v m some small =
-      let met = both-there i j first second lines long in
+  message-comes i j store1 store2 lines long channel v m some small =
+      let met = both-there i j store1 store2 lines long in
       let g = met .here in
       let k = run-kept (met .run) in
       let c = call.taking i channel m in

@@ -13,7 +13,7 @@ use Rattle.packet.specs.Read.{headAt, headTests, headRead}
 use Rattle.packet.specs.Write.{packetOctets, writeTests}
 use Rattle.packet.specs.declared.Head.{Head}
 use Rattle.packet.specs.declared.Acks.{Acks}
-use Rattle.packet.specs.declared.HeadRead.the-variants as head
+use Rattle.packet.specs.declared.HeadReading.the-variants as head
 use Rattle.roundtrip.proofs.Packets.{head-round, acks-round, payload-round}
 use Rattle.owed.specs.Owed.{owedOf, firstThree}
 use Rattle.line.specs.declared.Line.{Line}
@@ -39,11 +39,11 @@ head-said s {h} = go (verdict (headTests s))
     go Pass e = refl
     go (Refuse q) e = absurd (let z : _≡_ {A = ℕ} 0 1 = cc in omega arith)
 
-pub packet-says : (h : Head) (a : Acks) (payload : List ℕ) (largest room : ℕ) → verdict (writeTests h a payload largest room) ≡ Pass → Says (packetOctets h a payload) h a payload
-packet-says h a payload largest room pass =
+pub packet-says : (h : Head) (a : Acks) (payload : List ℕ) (largest space : ℕ) → verdict (writeTests h a payload largest space) ≡ Pass → Says (packetOctets h a payload) h a payload
+packet-says h a payload largest space pass =
     let s = packetOctets h a payload in
-    let x = head-round h a payload largest room pass in
-    let y = acks-round h a payload largest room pass in
+    let x = head-round h a payload largest space pass in
+    let y = acks-round h a payload largest space pass in
     let plain = head-said s x in
     let listed = list-said s y in
     record {
@@ -52,5 +52,5 @@ packet-says h a payload largest room pass =
       listed = listed;
       head-back = sym (head-is s plain x);
       acks-back = sym (list-is s listed y);
-      payload-back = payload-round h a payload largest room pass;
+      payload-back = payload-round h a payload largest space pass;
     }

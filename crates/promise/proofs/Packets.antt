@@ -21,27 +21,27 @@ use Rattle.sending.specs.declared.Held.{Held}
 use Rattle.line.specs.Fit.{largest, lineFits}
 use Rattle.line.specs.Line.{sendingOf}
 use Rattle.line.specs.declared.Line.{Line}
-use Rattle.relay.specs.Asked.{reliable}
+use Rattle.relay.specs.RelayTests.{reliable}
 use Rattle.writing.specs.Write.{acksFor, headFor, emptyPacket, emptyTests}
-use Rattle.writing.specs.Send.{heldPacket, sendTests, maySend, Sendable}
-use Rattle.writing.specs.declared.MaySend.the-variants as may
+use Rattle.writing.specs.Send.{heldPacket, sendTests, sendVerdict, Sendable}
+use Rattle.writing.specs.declared.SendVerdict.the-variants as may
 use Rattle.writing.proofs.Packets as written
 use Rattle.writing.proofs.Sends.{may-sendable, send-passes}
 use Rattle.arriving.specs.Arrive.{arriveTests}
-use Rattle.book.specs.declared.Whose.{Whose}
-use Rattle.book.specs.declared.Whose.the-variants.{At, Nobody}
+use Rattle.book.specs.declared.Owner.{Owner}
+use Rattle.book.specs.declared.Owner.the-variants.{At, Nobody}
 use Rattle.book.proofs.Facts.{line-fits}
-use Rattle.book.proofs.Owner.{whose-at}
+use Rattle.book.proofs.OneOwner.{whose-at}
 use Rattle.calls.specs.Call as call
 use Rattle.calls.specs.Order.{tests, lineFor, fitBook, roomy, lineNumber, packetLine, isSomebody, addressTests, arrivalTests}
 use Rattle.calls.specs.Order as order
-use Rattle.calls.specs.Did.{effect}
-use Rattle.laws.proofs.Own.{own-values}
+use Rattle.calls.specs.Result.{effect}
+use Rattle.laws.proofs.OwnLine.{own-values}
 use Rattle.promise.specs.Run.{Gateway, accepts, given, lineAt, Relays}
 use Rattle.promise.specs.Ours.{does}
 use Rattle.promise.specs.Demand2.{Says, Writes, Ready, heldBy, octetsBy, Entitled}
 use Rattle.promise.proofs.PacketBack.{packet-says}
-use Rattle.promise.proofs.Own.{Passes, call-passes, call-accepted, octets-given}
+use Rattle.promise.proofs.OwnLine.{Passes, call-passes, call-accepted, octets-given}
 use Rattle.promise.proofs.Accepts.{send-may-by, empty-may}
 use Rattle.promise.proofs.Bodies.{ready-sound}
 
@@ -53,12 +53,12 @@ module _ {g : Gateway} {i : ℕ} (r : Ready g i) (inside : Relays g i) (channel 
   fits = line-fits (g .book) (r .fits) i
 
   -- a held message is written, by its rank
-  module _ (v : reliable channel ≡ true) (rank : ℕ) (few : rank < heldCount (sendingOf l channel)) (room : 144 ≤ length out) where
+  module _ (v : reliable channel ≡ true) (rank : ℕ) (few : rank < heldCount (sendingOf l channel)) (space : 144 ≤ length out) where
     abbrev m : Held
     m = heldBy g i channel rank
 
     may-pass : verdict (sendTests l channel rank (length out)) ≡ Pass
-    may-pass = send-may-by l (r .opened) inside fits channel rank (length out) v room few
+    may-pass = send-may-by l (r .opened) inside fits channel rank (length out) v space few
 
     pass : Passes g (call.sending i channel rank) out
     unfolding tests
@@ -67,7 +67,7 @@ module _ {g : Gateway} {i : ℕ} (r : Ready g i) (inside : Relays g i) (channel 
         verdict-on before (sendTests l channel rank (length out)) (passes before (r .fits, (le-leb _ _ (r .long), (le-leb i 3 (omega (arith, r .small)), tt)))) ∙ may-pass
 
     able : Sendable l channel (length out) m
-    unfolding maySend
+    unfolding sendVerdict
     able = may-sendable l channel rank (length out) fits (ap (λ (x : Verdict). settle x may.Refused (may.Message m)) may-pass)
 
     sent : given (does g (call.sending i channel rank) out) ≡ heldPacket l i channel m (g .store)
@@ -84,9 +84,9 @@ module _ {g : Gateway} {i : ℕ} (r : Ready g i) (inside : Relays g i) (channel 
         )
 
   -- an empty packet is written
-  module _ (c : channel ≤ 2) (room : 12 ≤ length out) where
+  module _ (c : channel ≤ 2) (space : 12 ≤ length out) where
     empty-pass : verdict (emptyTests l channel (length out)) ≡ Pass
-    empty-pass = empty-may l (r .opened) inside channel (length out) c room
+    empty-pass = empty-may l (r .opened) inside channel (length out) c space
 
     goes : Passes g (call.empty i channel) out
     unfolding tests
@@ -126,7 +126,7 @@ module _ (g : Gateway) (s out : List ℕ) (taken : accepts (does g (call.arrival
       last : List Test
       last = must (isSomebody (packetLine (g .book) s)) NOLINE ∷ []
 
-      go : (w : Whose) → isSomebody w ≡ true → w ≡ At (order.lineAt w)
+      go : (w : Owner) → isSomebody w ≡ true → w ≡ At (order.lineAt w)
       go (At j) e = refl
       go Nobody e = clash e
 

@@ -12,7 +12,7 @@ use Rattle.line.specs.Line.{closedLine}
 use Rattle.line.specs.declared.Line.{Line}
 use Rattle.line.proofs.Keeps.{closed-fits}
 use Rattle.store.specs.declared.Way.{Way}
-use Rattle.relay.specs.Asked.{reliable}
+use Rattle.relay.specs.RelayTests.{reliable}
 use Rattle.relay.proofs.Keeps.{SameSettings}
 use Rattle.book.specs.Book.{bookFits}
 use Rattle.book.specs.Shape.{BookShaped}
@@ -22,7 +22,7 @@ use Rattle.promise.specs.Past.{Past, nothingYet, justOpened}
 use Rattle.promise.specs.Run.{Gateway, lineAt, Relays}
 use Rattle.promise.specs.Promise.{lineIn}
 use Rattle.promise.specs.Ours.{after}
-use Rattle.promise.proofs.Views.{SameRooms}
+use Rattle.promise.proofs.Views.{SameSlots}
 use Rattle.promise.proofs.Ends.{End, Joined}
 use Rattle.promise.proofs.Fresh.{Unused, closed-unused, unused-joined, beside-joined}
 
@@ -73,16 +73,16 @@ pub end-now : (g : Gateway) (i : ℕ) (p : Past) {l : Line} {store : List ℕ} �
     → endOf g i p ≡ record { line = l; i = i; store = store; past = p }
 end-now g i p o e s = (λ t. record { line = pick (o t) (lineAt g i) closedLine; i = i; store = g .store; past = p }) ∙ (λ t. record { line = e t; i = i; store = s t; past = p })
 
--- What stays of the line: its record, and the rooms of its places.
+-- What stays of the line: its record, and the slots of its places.
 module _ (g h : Gateway) (i : ℕ) (same : lineAt h i ≡ lineAt g i) where
   pub phase-stays : {identifier kind : ℕ} {p : Past} → Phase i identifier kind g p → Phase i identifier kind h p
   phase-stays closed = closed
   phase-stays {identifier} {kind} (unused o u) = unused (subst (Open identifier kind) (sym same) o) (subst Unused (sym same) u)
   phase-stays {identifier} {kind} (relaying o t r) = relaying (subst (Open identifier kind) (sym same) o) t (ap (λ (l : Line). l .modes .local) same ∙ r)
 
-  pub joined-stays : (p : Past) {f : End} → 42240 ≤ length (h .store) → ((w : Way) (c : ℕ) → reliable c ≡ true → SameRooms i w c (g .store) (h .store)) → Joined (endOf g i p) f → Joined (endOf h i p) f
-  joined-stays p {f} long rooms j =
-      subst (λ (l : Line). Joined (record { line = pick (p .opened) l closedLine; i = i; store = h .store; past = p }) f) (sym same) (beside-joined j (h .store) long rooms)
+  pub joined-stays : (p : Past) {f : End} → 42240 ≤ length (h .store) → ((w : Way) (c : ℕ) → reliable c ≡ true → SameSlots i w c (g .store) (h .store)) → Joined (endOf g i p) f → Joined (endOf h i p) f
+  joined-stays p {f} long slots j =
+      subst (λ (l : Line). Joined (record { line = pick (p .opened) l closedLine; i = i; store = h .store; past = p }) f) (sym same) (beside-joined j (h .store) long slots)
 
 -- before the opening anything may become of the gateway
 module _ (g h : Gateway) (i : ℕ) (long : 42240 ≤ length (h .store)) where

@@ -15,20 +15,20 @@ use Rattle.channel.specs.Channel.{windowOf}
 use Rattle.channel.specs.Distance.{placeOf}
 use Rattle.receiving.specs.declared.Receiving.{Receiving}
 use Rattle.flow.specs.Flow.{Full, Have, waiting}
-use Rattle.flow.specs.View.{Rooms, messageAt, messageOf}
+use Rattle.flow.specs.View.{Slots, messageAt, messageOf}
 use Rattle.flow.proofs.Flows.{none-or, taken-all}
 use Rattle.line.specs.Line.{receivingOf}
 use Rattle.store.specs.declared.Way.the-variants as way
-use Rattle.relay.specs.Asked.{reliable}
-use Rattle.promise.specs.Ends.{roomsOf}
+use Rattle.relay.specs.RelayTests.{reliable}
+use Rattle.promise.specs.Ends.{slotsOf}
 use Rattle.promise.proofs.Lists.{each-at}
 use Rattle.promise.proofs.Ends.{End, Joined, mark, sent, got}
 
 -- a place that has a message is in the set
-pub full-bit : (w : ℕ) (room : Rooms) (sizes : List ℕ) (m first i : ℕ) → Full (messageOf w room sizes m first i) → bitOf m i ≡ true
-full-bit w room sizes m first i v = go (bitOf m i) v
+pub full-bit : (w : ℕ) (slot : Slots) (sizes : List ℕ) (m origin i : ℕ) → Full (messageOf w slot sizes m origin i) → bitOf m i ≡ true
+full-bit w slot sizes m origin i v = go (bitOf m i) v
   where
-    go : (t : Bool) → Full (pick t (messageAt room sizes (placeOf first i w)) []) → t ≡ true
+    go : (t : Bool) → Full (pick t (messageAt slot sizes (placeOf origin i w)) []) → t ≡ true
     go true v = refl
     go false v = absurd v
 
@@ -58,7 +58,7 @@ module _ {e f : End} (j : Joined e f) (c : ℕ) (v : reliable c ≡ true) (there
       let r = receivingOf (f .line) c in
       let back : r .next - r .next ≡ 0 = sub-self (r .next) in
       ap (bitOf (maskOf (r .stored))) (sym back)
-      ∙ full-bit (windowOf c) (roomsOf (f .store) (f .i) way.Receiving c) (r .sizes) (maskOf (r .stored)) (r .first) (r .next - r .next) there
+      ∙ full-bit (windowOf c) (slotsOf (f .store) (f .i) way.Receiving c) (r .sizes) (maskOf (r .stored)) (r .origin) (r .next - r .next) there
 
   pub next-below : got f c .R < sent e c .S
   next-below = j .there c v .keeps (got f c .R) (omega arith) there .0

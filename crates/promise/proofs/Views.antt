@@ -1,4 +1,4 @@
--- What an end shows of a channel depends on that channel's side and on the rooms of its places: a message put into one room leaves every other
+-- What an end shows of a channel depends on that channel's side and on the slots of its places: a message put into one slot leaves every other
 -- view as it was.
 -- Assumes nothing.
 use Prim.Native.Nat.{ℕ, _-_, _^_, _≤_, _<_}
@@ -25,57 +25,57 @@ use Rattle.receiving.specs.declared.Receiving.{Receiving}
 use Rattle.channel.proofs.Distances.{place-lt}
 use Rattle.flow.proofs.Sized.{bit-below}
 use Rattle.flow.specs.Flow.{Message}
-use Rattle.flow.specs.View.{Rooms, messageAt, messageOf, sends, receives, PutAt, Roomy}
+use Rattle.flow.specs.View.{Slots, messageAt, messageOf, sends, receives, PutAt, SlotsHold}
 use Rattle.line.specs.Fit.{largest}
 use Rattle.line.specs.Line.{sendingOf, receivingOf, withSides, withSending, withReceiving}
 use Rattle.line.specs.declared.Line.{Line}
-use Rattle.store.specs.Store.{roomAt, regionEnd}
+use Rattle.store.specs.Store.{slotAt, regionEnd}
 use Rattle.store.specs.declared.Way.{Way}
 use Rattle.store.specs.declared.Way.the-variants as way
-use Rattle.store.proofs.Rooms.{Whose, Served, region, region-end, regions-apart}
-use Rattle.store.proofs.Octets.{room-length, room-put, room-kept, region-kept}
-use Rattle.relay.specs.Asked.{reliable}
+use Rattle.store.proofs.Slots.{Owner, Served, region, region-end, regions-apart}
+use Rattle.store.proofs.Octets.{slot-length, slot-put, slot-kept, region-kept}
+use Rattle.relay.specs.RelayTests.{reliable}
 use Rattle.relay.proofs.Lines.{channel-span, region-places, region-size}
-use Rattle.promise.specs.Ends.{roomsOf, sendsOf, receivesOf}
+use Rattle.promise.specs.Ends.{slotsOf, sendsOf, receivesOf}
 
--- two stores have the same in the rooms of a line, a way and a channel
-abbrev pub SameRooms : ℕ → Way → ℕ → List ℕ → List ℕ → Type 0
-SameRooms i w channel store after = (p : ℕ) → p < windowOf channel → roomsOf after i w channel p ≡ roomsOf store i w channel p
+-- two stores have the same in the slots of a line, a way and a channel
+abbrev pub SameSlots : ℕ → Way → ℕ → List ℕ → List ℕ → Type 0
+SameSlots i w channel store after = (p : ℕ) → p < windowOf channel → slotsOf after i w channel p ≡ slotsOf store i w channel p
 
--- the rooms of the window's places decide what is seen
-module _ (w : ℕ) (room after : Rooms) (same : (p : ℕ) → p < w → after p ≡ room p) where
-  message-same : (sizes : List ℕ) (m first : ℕ) → first < w → m < 2 ^ w → (i : ℕ) → messageOf w after sizes m first i ≡ messageOf w room sizes m first i
-  message-same sizes m first l h i = go (bitOf m i) refl
+-- the slots of the window's places decide what is seen
+module _ (w : ℕ) (slot after : Slots) (same : (p : ℕ) → p < w → after p ≡ slot p) where
+  message-same : (sizes : List ℕ) (m origin : ℕ) → origin < w → m < 2 ^ w → (i : ℕ) → messageOf w after sizes m origin i ≡ messageOf w slot sizes m origin i
+  message-same sizes m origin l h i = go (bitOf m i) refl
     where
-      go : (t : Bool) → bitOf m i ≡ t → pick t (messageAt after sizes (placeOf first i w)) [] ≡ pick t (messageAt room sizes (placeOf first i w)) []
+      go : (t : Bool) → bitOf m i ≡ t → pick t (messageAt after sizes (placeOf origin i w)) [] ≡ pick t (messageAt slot sizes (placeOf origin i w)) []
       go true e =
           let near : i < w = bit-below m w i h e in
-          ap (λ (x : List ℕ). messageAt (λ p. x) sizes (placeOf first i w)) (same (placeOf first i w) (place-lt w first i l (omega arith)))
+          ap (λ (x : List ℕ). messageAt (λ p. x) sizes (placeOf origin i w)) (same (placeOf origin i w) (place-lt w origin i l (omega arith)))
       go false e = refl
 
-  sends-same : (s : Sending) → SendingOk w s → sends w after s ≡ sends w room s
+  sends-same : (s : Sending) → SendingOk w s → sends w after s ≡ sends w slot s
   sends-same s k =
-      let f = fun-ext (λ n. message-same (s .sizes) (maskOf (s .unacked)) (s .first) (k .placed) (lt-of-lt-of-le (k .masked) (pow-mono (k .windowed))) (n - s .base)) in
+      let f = fun-ext (λ n. message-same (s .sizes) (maskOf (s .unacked)) (s .origin) (k .placed) (lt-of-lt-of-le (k .masked) (pow-mono (k .windowed))) (n - s .base)) in
       λ t. record { S = s .taken; h = s .base; held = f t }
 
-  receives-same : (r : Receiving) → ReceivingOk w r → receives w after r ≡ receives w room r
+  receives-same : (r : Receiving) → ReceivingOk w r → receives w after r ≡ receives w slot r
   receives-same r k =
-      let f = fun-ext (λ n. message-same (r .sizes) (maskOf (r .stored)) (r .first) (k .placed) (k .masked) (n - r .next)) in
+      let f = fun-ext (λ n. message-same (r .sizes) (maskOf (r .stored)) (r .origin) (k .placed) (k .masked) (n - r .next)) in
       λ t. record { R = r .next; stored = f t }
 
 -- so a line's views are those of another record and another store that agree on the channel
 module _ (store after : List ℕ) (i : ℕ) (l m : Line) (channel : ℕ) where
-  pub sends-kept : SendingOk (windowOf channel) (sendingOf l channel) → sendingOf m channel ≡ sendingOf l channel → SameRooms i way.Sending channel store after
+  pub sends-kept : SendingOk (windowOf channel) (sendingOf l channel) → sendingOf m channel ≡ sendingOf l channel → SameSlots i way.Sending channel store after
       → sendsOf after i m channel ≡ sendsOf store i l channel
   sends-kept k e same =
-      ap (λ (s : Sending). sends (windowOf channel) (roomsOf after i way.Sending channel) s) e
-      ∙ sends-same (windowOf channel) (roomsOf store i way.Sending channel) (roomsOf after i way.Sending channel) same (sendingOf l channel) k
+      ap (λ (s : Sending). sends (windowOf channel) (slotsOf after i way.Sending channel) s) e
+      ∙ sends-same (windowOf channel) (slotsOf store i way.Sending channel) (slotsOf after i way.Sending channel) same (sendingOf l channel) k
 
-  pub receives-kept : ReceivingOk (windowOf channel) (receivingOf l channel) → receivingOf m channel ≡ receivingOf l channel → SameRooms i way.Receiving channel store after
+  pub receives-kept : ReceivingOk (windowOf channel) (receivingOf l channel) → receivingOf m channel ≡ receivingOf l channel → SameSlots i way.Receiving channel store after
       → receivesOf after i m channel ≡ receivesOf store i l channel
   receives-kept k e same =
-      ap (λ (r : Receiving). receives (windowOf channel) (roomsOf after i way.Receiving channel) r) e
-      ∙ receives-same (windowOf channel) (roomsOf store i way.Receiving channel) (roomsOf after i way.Receiving channel) same (receivingOf l channel) k
+      ap (λ (r : Receiving). receives (windowOf channel) (slotsOf after i way.Receiving channel) r) e
+      ∙ receives-same (windowOf channel) (slotsOf store i way.Receiving channel) (slotsOf after i way.Receiving channel) same (receivingOf l channel) k
 
 -- A side put anew: it is what its channel has, and the other channel and the other way have what they had.
 module _ (l : Line) where
@@ -143,9 +143,9 @@ module _ (l : Line) where
             go false true f g = refl
             go false false f g = absurd (g refl refl)
 
--- A message put into the room of a place of the window.
+-- A message put into the slot of a place of the window.
 module _ (store : List ℕ) (long : 42240 ≤ length store) (i : ℕ) (small : i < 4) (w : Way) (channel : ℕ) (v : reliable channel ≡ true) where
-  abbrev own : Whose
+  abbrev own : Owner
   own = record { line = i; way = w; channel = channel }
 
   served : Served own
@@ -154,13 +154,13 @@ module _ (store : List ℕ) (long : 42240 ≤ length store) (i : ℕ) (small : i
   in-store : regionEnd (region own) ≤ length store
   in-store = omega (arith, region-end own served)
 
-  -- each room holds the largest message
-  pub rooms-roomy : Roomy (windowOf channel) largest (roomsOf store i w channel)
-  rooms-roomy p l = omega (arith, room-length store (region own) in-store p (rw (region-places i w channel) l), region-size i w channel)
+  -- each slot holds the largest message
+  pub slots-hold : SlotsHold (windowOf channel) largest (slotsOf store i w channel)
+  slots-hold p l = omega (arith, slot-length store (region own) in-store p (rw (region-places i w channel) l), region-size i w channel)
 
   module _ (p : ℕ) (x : Message) (near : p < windowOf channel) (fits : length x ≤ largest) where
     abbrev after : List ℕ
-    after = sets store (roomAt (region own) p) x
+    after = sets store (slotAt (region own) p) x
 
     placed : p < region own .places
     placed = rw (region-places i w channel) near
@@ -168,16 +168,16 @@ module _ (store : List ℕ) (long : 42240 ≤ length store) (i : ℕ) (small : i
     sized : length x ≤ region own .size
     sized = rw (region-size i w channel) fits
 
-    -- it lies there, and the channel's other rooms stay
-    pub put-here : PutAt (windowOf channel) (roomsOf store i w channel) (roomsOf after i w channel) p x
+    -- it lies there, and the channel's other slots stay
+    pub put-here : PutAt (windowOf channel) (slotsOf store i w channel) (slotsOf after i w channel) p x
     put-here =
         record {
-          here = room-put store (region own) in-store p x placed sized;
-          others = λ q l d. room-kept store (region own) in-store p x placed sized q d;
+          here = slot-put store (region own) in-store p x placed sized;
+          others = λ q l d. slot-kept store (region own) in-store p x placed sized q d;
         }
 
-    -- the rooms of another line, way or channel stay
-    pub put-apart : (y : Whose) → Served y → own ≢ y → SameRooms (y .line) (y .way) (y .channel) store after
+    -- the slots of another line, way or channel stay
+    pub put-apart : (y : Owner) → Served y → own ≢ y → SameSlots (y .line) (y .way) (y .channel) store after
     put-apart y s d q l =
         region-kept store (region own) in-store p x placed sized (region y) (regions-apart own y served s d) q
         (rw (region-places (y .line) (y .way) (y .channel)) l)

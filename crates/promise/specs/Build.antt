@@ -3,11 +3,11 @@
 use Prim.Native.Nat.{ℕ}
 use mathlib.Core.List.{List}
 use lib.ListN.{length, take, getD}
-use Rattle.ground.specs.Answer.{Answer, writtenAnswer, contents}
+use Rattle.ground.specs.Answer.{Answer, writeSays, contents}
 use Rattle.ground.specs.Refusal.{verdict, settle}
 use Rattle.ground.specs.declared.Verdict.{Verdict}
-use Rattle.ground.specs.declared.Written.{Written}
-use Rattle.ground.specs.declared.Written.the-variants.{Wrote, Refused}
+use Rattle.ground.specs.declared.WriteAnswer.{WriteAnswer}
+use Rattle.ground.specs.declared.WriteAnswer.the-variants.{Wrote, Refused}
 use Rattle.connect.specs.Read.{connectRead}
 use Rattle.connect.specs.Read as connect
 use Rattle.connect.specs.Write.{connectOctets}
@@ -18,11 +18,11 @@ use Rattle.breaks.specs.declared.Break.{Break}
 use Rattle.slip.specs.Slip as slip
 use Rattle.book.specs.declared.Book.{Book}
 use Rattle.calls.specs.Call.{Call}
-use Rattle.calls.specs.Did.{Did, did}
+use Rattle.calls.specs.Result.{CallResult, resultOf}
 
 -- a call on a book, with the store and the output that are lent to it
 abbrev pub Does : Type 0
-Does = Call → Book → List ℕ → List ℕ → Did
+Does = Call → Book → List ℕ → List ℕ → CallResult
 
 -- a body written: the answer, and all that the output holds then
 pub record Left : Type 0 where
@@ -44,14 +44,14 @@ pub record Build : Type 0 where
 -- octets written into an output, or a refusal
 abbrev pub leftBy : Verdict → List ℕ → List ℕ → Left
 leftBy v octets out =
-    let w : Written = settle v Refused (Wrote (length octets)) in
-    record { answer = writtenAnswer w; out = contents w octets out }
+    let w : WriteAnswer = settle v Refused (Wrote (length octets)) in
+    record { answer = writeSays w; out = contents w octets out }
 
 -- OURS: the definitions that the code is proved to meet, answers as document 01's numbers and values
 abbrev pub ours : Build
 ours =
     record {
-      does = did;
+      does = resultOf;
       connectRead = λ s. connect.answerOf (connectRead s);
       connectWrite = λ c out. leftBy (verdict (body.writeTests c (length out))) (connectOctets c) out;
       breakRead = λ s. breaks.answerOf (breaks.breakRead s);

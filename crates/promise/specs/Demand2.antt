@@ -39,13 +39,13 @@ use Rattle.line.specs.Line.{sendingOf}
 use Rattle.line.specs.declared.Line.{Line}
 use Rattle.store.specs.Store.{regionOf, octetsIn}
 use Rattle.store.specs.declared.Way.the-variants as way
-use Rattle.relay.specs.Asked.{reliable}
+use Rattle.relay.specs.RelayTests.{reliable}
 use Rattle.writing.specs.Write.{acksFor, headFor}
 use Rattle.writing.specs.Send.{ranked, heldIn}
 use Rattle.book.specs.Book.{bookFits}
 use Rattle.book.specs.Shape.{BookShaped}
 use Rattle.calls.specs.Call as call
-use Rattle.calls.specs.Did.{Did, slipOf}
+use Rattle.calls.specs.Result.{CallResult, slipOf}
 use Rattle.promise.specs.Build.{Left, octetsLeft, Build}
 use Rattle.promise.specs.Run.{Gateway, does, after, accepts, given, lineAt, Relays}
 
@@ -65,7 +65,7 @@ pub record Says (s : List ℕ) (head : Head) (acks : Acks) (payload : List ℕ) 
   pub payload-back : payloadOf s ≡ payload
 
 -- a packet that is written
-abbrev pub Writes : Did → Head → Acks → List ℕ → Type 0
+abbrev pub Writes : CallResult → Head → Acks → List ℕ → Type 0
 Writes d head acks payload = (accepts d ≡ true) × Says (given d) head acks payload
 
 -- a book that BOOK lets pass, its arrays as long as declared, with line i open; and a store

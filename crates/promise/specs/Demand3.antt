@@ -12,7 +12,7 @@ use Rattle.mode.specs.Given.{modem}
 use Rattle.mode.specs.Acts.{ask}
 use Rattle.line.specs.Fit.{largest, settingsFit}
 use Rattle.line.specs.declared.Settings.{Settings}
-use Rattle.relay.specs.Asked.{reliable}
+use Rattle.relay.specs.RelayTests.{reliable}
 use Rattle.calls.specs.Call.{Call}
 use Rattle.calls.specs.Call as call
 use Rattle.calls.specs.Order.{lineFor}

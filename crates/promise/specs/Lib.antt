@@ -6,4 +6,4 @@ pub mod Promise
 pub mod Ours
 pub mod Demand3
 pub mod Demand2
-pub mod Report
+pub mod ReportRule

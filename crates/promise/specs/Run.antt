@@ -18,7 +18,7 @@ use Rattle.book.specs.declared.Book.{Book}
 use Rattle.calls.specs.Call.{Call}
 use Rattle.calls.specs.Call as call
 use Rattle.calls.specs.Order.{lineFor}
-use Rattle.calls.specs.Did.{Did}
+use Rattle.calls.specs.Result.{CallResult}
 use Rattle.flow.specs.Flow.{Message}
 use Rattle.promise.specs.Build.{Does}
 use Rattle.promise.specs.Past.{Mark, Packet, Past, nothingYet, justOpened, tookPast, handedPast, wrotePast, heardPast}
@@ -28,11 +28,11 @@ pub record Gateway : Type 0 where
   pub book : Book
   pub store : List ℕ
 
-abbrev pub accepts : Did → Bool
+abbrev pub accepts : CallResult → Bool
 accepts d = eqb (d .answer .number) 0
 
 -- the octets that a call put into its output: as many as it answers
-abbrev pub given : Did → List ℕ
+abbrev pub given : CallResult → List ℕ
 given d = take (getD (d .answer .values) 0 0) (d .out)
 
 abbrev pub lineAt : Gateway → ℕ → Line
@@ -50,11 +50,11 @@ abbrev pub baseMark : Gateway → ℕ → ℕ → Mark
 baseMark g i channel = record { channel = channel; number = receivingOf (lineAt g i) channel .next }
 
 -- the packet that writing a held message gave
-abbrev pub sentPacket : Gateway → Past → ℕ → ℕ → ℕ → Did → Packet
+abbrev pub sentPacket : Gateway → Past → ℕ → ℕ → ℕ → CallResult → Packet
 sentPacket g p i channel rank d = record { octets = given d; carries = rankedMark g i channel rank ∷ []; names = baseMark g i channel ∷ []; acks = take 3 (p .owes) }
 
 -- an empty packet: on channel 0 it names no base
-abbrev pub emptyPacket : Gateway → Past → ℕ → ℕ → Did → Packet
+abbrev pub emptyPacket : Gateway → Past → ℕ → ℕ → CallResult → Packet
 emptyPacket g p i channel d = record { octets = given d; carries = []; names = pick (eqb channel 0) [] (baseMark g i channel ∷ []); acks = take 3 (p .owes) }
 
 -- how many messages of its channel were taken after message m, where `taken` are those taken, by channel
@@ -89,7 +89,7 @@ freshWith store = record { book = freshBook; store = store }
 
 module _ (f : Does) where
   -- what a call does there; `out` is the output that it is lent
-  abbrev pub does : Gateway → Call → List ℕ → Did
+  abbrev pub does : Gateway → Call → List ℕ → CallResult
   does g c out = f c (g .book) (g .store) out
 
   -- "their books and stores written by nothing else"
@@ -142,8 +142,8 @@ module _ (f : Does) where
 
   -- "Take two fresh gateways": what comes of them and of the line. Lines are 0 to 3; a store has at least 42,240 octets, whatever they are.
   pub record Run (i j identifier kind : ℕ) (g : Gateway) (p : Past) (h : Gateway) (q : Past) : Type 0 where
-    pub first : List ℕ
-    pub second : List ℕ
+    pub store1 : List ℕ
+    pub store2 : List ℕ
     pub lines : (i < 4) × (j < 4)
-    pub long : (42240 ≤ length first) × (42240 ≤ length second)
-    pub goes : Goes i j identifier kind (freshWith first) nothingYet (freshWith second) nothingYet g p h q
+    pub long : (42240 ≤ length store1) × (42240 ≤ length store2)
+    pub goes : Goes i j identifier kind (freshWith store1) nothingYet (freshWith store2) nothingYet g p h q

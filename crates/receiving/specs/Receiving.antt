@@ -17,7 +17,7 @@ use Rattle.receiving.specs.declared.Arrival.{Arrival}
 use Rattle.receiving.specs.declared.Arrival.the-variants.{Stored, There, Old}
 
 abbrev pub freshReceiving : Receiving
-freshReceiving = record { next = 0; stored = setOf 0; first = 0; sizes = replicate 32 0 }
+freshReceiving = record { next = 0; stored = setOf 0; origin = 0; sizes = replicate 32 0 }
 
 -- "Payload number n against the next to hand out R": let d = (n - R) mod 16,384; below the window it is stored, unless that place
 -- is already filled; if not, it is old
@@ -26,14 +26,14 @@ arrivalOf w r n = let d = dist n (r .next) in pick (ltb d w) (pick (bitOf (maskO
 
 -- the place of message R + d
 abbrev pub arrivalPlace : ℕ → Receiving → ℕ → ℕ
-arrivalPlace w r d = placeOf (r .first) d w
+arrivalPlace w r d = placeOf (r .origin) d w
 
 -- message R + d is stored, of `size` octets
 unfoldable pub storedAt : ℕ → Receiving → ℕ → ℕ → Receiving
 storedAt w r d size = record {
   next = r .next;
   stored = setOf (withBit (maskOf (r .stored)) d);
-  first = r .first;
+  origin = r .origin;
   sizes = set (r .sizes) (arrivalPlace w r d) size;
 }
 
@@ -49,29 +49,29 @@ handTests r = must (ltb (r .next) cap) SPENT ∷ must (bitOf (maskOf (r .stored)
 
 -- the size of message R
 abbrev pub nextSize : Receiving → ℕ
-nextSize r = getD (r .sizes) (r .first) 0
+nextSize r = getD (r .sizes) (r .origin) 0
 
 -- "Handing out gives message R and moves R on"
 unfoldable pub handedOut : ℕ → Receiving → Receiving
 handedOut w r = record {
   next = r .next + 1;
   stored = setOf (maskOf (r .stored) / 2 ^ 1);
-  first = placeOf (r .first) 1 w;
+  origin = placeOf (r .origin) 1 w;
   sizes = r .sizes;
 }
 
 -- leaving modem relay "empties its stores": nothing is stored any more; "S, h and R stay"
 unfoldable pub emptiedReceiving : Receiving → Receiving
-emptiedReceiving r = record { next = r .next; stored = setOf 0; first = r .first; sizes = r .sizes }
+emptiedReceiving r = record { next = r .next; stored = setOf 0; origin = r .origin; sizes = r .sizes }
 
 -- What BOOK asks: a count of at most 16,777,215; "a stored one outside R to R + window - 1 .. of 0 or over 132 octets"; a first
 -- place at or past the window is outside its span.
 abbrev pub receivingTests : ℕ → ℕ → Receiving → List Bool
 receivingTests w z r =
     leb (r .next) cap
-    ∷ ltb (r .first) w
+    ∷ ltb (r .origin) w
     ∷ within w (maskOf (r .stored))
-    ∷ sizesFit w z (r .sizes) (maskOf (r .stored)) (r .first)
+    ∷ sizesFit w z (r .sizes) (maskOf (r .stored)) (r .origin)
     ∷ []
 
 unfoldable pub receivingFits : ℕ → ℕ → Receiving → Bool
@@ -80,6 +80,6 @@ receivingFits w z r = allHold (receivingTests w z r)
 -- what the steps ask of a side, all of it among what BOOK asks, and of its window: that a mask has room for it
 pub record ReceivingOk (w : ℕ) (r : Receiving) : Type 0 where
   pub capped : r .next ≤ cap
-  pub placed : r .first < w
+  pub placed : r .origin < w
   pub masked : maskOf (r .stored) < 2 ^ w
   pub narrow : w ≤ widest

@@ -21,7 +21,7 @@ pub struct Receiving {
     // Place i is in the set where message R + i is stored. All are below the window.
     pub stored: Places,
     // The place of message R; message R + i lies i places further on. Below the window.
-    pub first: u32,
+    pub origin: u32,
     // By place: how many octets the message there has.
     pub sizes: [u16; 32],
 }
@@ -46,7 +46,7 @@ impl Receiving {
         Receiving {
             next: 0,
             stored: none,
-            first: 0,
+            origin: 0,
             sizes,
         }
     }
@@ -71,7 +71,7 @@ impl Receiving {
         requires { ⌜ ReceivingOk window self × (d < window) ⌝ }
         ensures { λ r. ⌜ r ≡ arrivalPlace window self d ⌝ }
     {
-        place(self.first, d, window)
+        place(self.origin, d, window)
     }
 
     // The message that is d past R is stored, of `size` octets.
@@ -101,10 +101,10 @@ impl Receiving {
 
     // The size of message R, which lies at place first.
     pub fn next_size(self) -> u16
-        requires { ⌜ self .first < widest ⌝ }
+        requires { ⌜ self .origin < widest ⌝ }
         ensures { λ r. ⌜ r ≡ nextSize self ⌝ }
     {
-        let at = self.first as usize;
+        let at = self.origin as usize;
         self.sizes[at]
     }
 
@@ -116,7 +116,7 @@ impl Receiving {
         let mut next = self;
         next.next = self.next + 1;
         next.stored = self.stored.dropped(1);
-        next.first = place(self.first, 1, window);
+        next.origin = place(self.origin, 1, window);
         next
     }
 
@@ -139,13 +139,13 @@ impl Receiving {
         if Channel::CAP < self.next {
             return false;
         }
-        if window <= self.first {
+        if window <= self.origin {
             return false;
         }
         if !self.stored.within(window) {
             return false;
         }
         let sizes = self.sizes;
-        sizes_fit(sizes, self.stored, self.first, window, largest)
+        sizes_fit(sizes, self.stored, self.origin, window, largest)
     }
 }

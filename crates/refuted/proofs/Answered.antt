@@ -29,19 +29,19 @@ use Rattle.book.specs.Book.{lineOf}
 use Rattle.calls.specs.Call.{Call}
 use Rattle.calls.specs.Call as call
 use Rattle.calls.specs.Order.{lineFor}
-use Rattle.calls.specs.Did.{did, effect}
+use Rattle.calls.specs.Result.{resultOf, effect}
 use Rattle.promise.specs.Past.{Mark, Packet, Past, there, renewed, enter, enterAll, handedPast, wrotePast, heardPast}
 use Rattle.promise.specs.Run.{Gateway, does, after, given, lineAt, Each, none, also, Recent, Honest, rankedMark, baseMark, emptyPacket, handed, wrote, heard}
 use Rattle.promise.specs.Promise.{receivesBy, AllCame}
 use Rattle.promise.specs.Demand3.{Serves}
 use Rattle.refuted.specs.Idle.{ignored}
 use Rattle.refuted.specs.Quick.{expected, isOlder}
-use Rattle.promise.proofs.Own.{call-passes, line-left}
-use Rattle.promise.proofs.Lift.{run-kept}
+use Rattle.promise.proofs.OwnLine.{call-passes, line-left}
+use Rattle.promise.proofs.StepsKeep.{run-kept}
 use Rattle.promise.proofs.Promised.{all-have}
 use Rattle.promise.proofs.Demand2.{ours-demand2}
 use Rattle.refuted.proofs.Twins.{f, Twin, turned, served, alike, ready, S-is, h-is, R-is, next-is, taken-is}
-use Rattle.refuted.proofs.Rounds.{room, At, g₂, p₂, t₂, taken₁, base₂, ranked, g₁, packet, number, honest, said-number, arrival, here, next-there}
+use Rattle.refuted.proofs.Rounds.{space, At, g₂, p₂, t₂, taken₁, base₂, ranked, g₁, packet, number, honest, said-number, arrival, here, next-there}
 
 -- acknowledgements leave h as it is
 acked-base : (s : Sending) (n : ℕ) → ackedBy s n .base ≡ s .base
@@ -98,14 +98,14 @@ module _ {k : ℕ} (less : k < 16384) (a : At k) where
   not-older : isOlder s (h .book) ≡ false
   not-older = le-ltb (headAt s .number) (expected s (h .book)) (omega (arith, said-number few a, next-there few a, less))
 
-  same : does f h comes [] ≡ does did h comes []
-  same = ap (λ (b : Bool). pick b (ignored s (h .book) (h .store) []) (did comes (h .book) (h .store) [])) not-older
+  same : does f h comes [] ≡ does resultOf h comes []
+  same = ap (λ (b : Bool). pick b (ignored s (h .book) (h .store) []) (resultOf comes (h .book) (h .store) [])) not-older
 
-  let-in : Serves did h 0 comes []
+  let-in : Serves resultOf h 0 comes []
   let-in = served (turned (t₂ few a)) .arrives s (packet few a) (honest few a) [] .1
 
   abbrev h₁ : Gateway
-  h₁ = after did h comes []
+  h₁ = after resultOf h comes []
 
   abbrev q₁ : Past
   q₁ = heardPast (a .q) (packet few a)
@@ -128,39 +128,39 @@ module _ {k : ℕ} (less : k < 16384) (a : At k) where
   abbrev handing : Call
   handing = call.handOut 0 1
 
-  gives : Serves did h₁ 0 handing room
-  gives = served t₃ .hands 1 refl stored room (lit≤ tt)
+  gives : Serves resultOf h₁ 0 handing space
+  gives = served t₃ .hands 1 refl stored space (lit≤ tt)
 
   abbrev h₂ : Gateway
-  h₂ = after did h₁ handing room
+  h₂ = after resultOf h₁ handing space
 
   abbrev q₂ : Past
-  q₂ = handedPast q₁ 1 (given (does did h₁ handing room))
+  q₂ = handedPast q₁ 1 (given (does resultOf h₁ handing space))
 
   t₄ : Twin h₂ q₂ (g₂ few a) (p₂ few a)
-  t₄ = alike t₃ handing room (a .twin .yours .0) gives refl (handed 1 (gives .accepted)) (handed 1 (gives .accepted))
+  t₄ = alike t₃ handing space (a .twin .yours .0) gives refl (handed 1 (gives .accepted)) (handed 1 (gives .accepted))
 
   handed₂ : length (q₂ .handed 1) ≡ suc k
-  handed₂ = omega (arith, length-append (a .q .handed 1) (given (does did h₁ handing room) ∷ []), a .handed)
+  handed₂ = omega (arith, length-append (a .q .handed 1) (given (does resultOf h₁ handing space) ∷ []), a .handed)
 
   -- base news goes back
   abbrev telling : Call
   telling = call.empty 0 1
 
-  tells : Serves did h₂ 0 telling room
-  tells = served t₄ .empties 1 (lit≤ tt) room (lit≤ tt)
+  tells : Serves resultOf h₂ 0 telling space
+  tells = served t₄ .empties 1 (lit≤ tt) space (lit≤ tt)
 
   abbrev news : Packet
-  news = emptyPacket h₂ q₂ 0 1 (does did h₂ telling room)
+  news = emptyPacket h₂ q₂ 0 1 (does resultOf h₂ telling space)
 
   abbrev h₃ : Gateway
-  h₃ = after did h₂ telling room
+  h₃ = after resultOf h₂ telling space
 
   abbrev q₃ : Past
   q₃ = wrotePast q₂ news
 
   t₅ : Twin h₃ q₃ (g₂ few a) (p₂ few a)
-  t₅ = alike t₄ telling room (a .twin .yours .0) tells refl (wrote 1 (tells .accepted)) (wrote 1 (tells .accepted))
+  t₅ = alike t₄ telling space (a .twin .yours .0) tells refl (wrote 1 (tells .accepted)) (wrote 1 (tells .accepted))
 
   owes₂ : q₂ .owes ≡ rankedMark (g₁ few a) 0 1 (ranked few a .0) ∷ []
   unfolding there renewed enter enterAll
@@ -179,27 +179,27 @@ module _ {k : ℕ} (less : k < 16384) (a : At k) where
       }
 
   empty : payloadOf (news .octets) ≡ []
-  empty = ours-demand2 .empty-back h₂ 0 (ready t₄) (t₄ .mine .1) 1 (lit≤ tt) room (lit≤ tt) .1 .payload-back
+  empty = ours-demand2 .empty-back h₂ 0 (ready t₄) (t₄ .mine .1) 1 (lit≤ tt) space (lit≤ tt) .1 .payload-back
 
   head : headAt (news .octets) ≡ headFor (lineAt h₂ 0) 1 0
-  head = ours-demand2 .empty-back h₂ 0 (ready t₄) (t₄ .mine .1) 1 (lit≤ tt) room (lit≤ tt) .1 .head-back
+  head = ours-demand2 .empty-back h₂ 0 (ready t₄) (t₄ .mine .1) 1 (lit≤ tt) space (lit≤ tt) .1 .head-back
 
   abbrev back : Call
   back = call.arrival (news .octets)
 
-  hears : (lineFor back (g₂ few a .book) ≡ 0) × Serves did (g₂ few a) 0 back []
+  hears : (lineFor back (g₂ few a .book) ≡ 0) × Serves resultOf (g₂ few a) 0 back []
   hears = served (turned t₅) .arrives (news .octets) news honest₃ []
 
-  same₃ : does f (g₂ few a) back [] ≡ does did (g₂ few a) back []
+  same₃ : does f (g₂ few a) back [] ≡ does resultOf (g₂ few a) back []
   same₃ =
       let g = g₂ few a in
       let next : expected (news .octets) (g .book) ≡ 0
       = (λ i. receivingOf (lineOf (g .book) (hears .0 i)) (head i .channel) .next) ∙ next-is t₅ ∙ ap length (a .deaf) in
       let e : isOlder (news .octets) (g .book) ≡ false = le-ltb (headAt (news .octets) .number) (expected (news .octets) (g .book)) (omega (arith, next)) in
-      ap (λ (b : Bool). pick b (ignored (news .octets) (g .book) (g .store) []) (did back (g .book) (g .store) [])) e
+      ap (λ (b : Bool). pick b (ignored (news .octets) (g .book) (g .store) []) (resultOf back (g .book) (g .store) [])) e
 
   abbrev g₃ : Gateway
-  g₃ = after did (g₂ few a) back []
+  g₃ = after resultOf (g₂ few a) back []
 
   abbrev p₃ : Past
   p₃ = heardPast (p₂ few a) news

@@ -22,12 +22,12 @@ use Rattle.owed.specs.Owed.{member, enters, entered, firstThree, withoutThree, 
 use Rattle.mode.specs.Fit.{modesFit}
 use Rattle.mode.specs.Given.{modem}
 use Rattle.mode.specs.Moved.{channelsFor, timed, moved}
-use Rattle.mode.specs.Request.{asking}
+use Rattle.mode.specs.Request.{askStep}
 use Rattle.mode.specs.Acts.{ask}
 use Rattle.line.specs.Fit.{lineFits}
 use Rattle.line.specs.Mode.{steppedTo}
 use Rattle.store.specs.Store.{regionOf}
-use Rattle.relay.specs.Asked.{relayTests}
+use Rattle.relay.specs.RelayTests.{relayChannelTests}
 use Rattle.relay.specs.Take.{takeCallTests}
 use Rattle.relay.specs.HandOut.{handCallTests}
 use Rattle.writing.specs.Write.{acksFor, wroteLine, baseFor, emptyTests}
@@ -36,11 +36,11 @@ use Rattle.writing.specs.Send.{sendTests, heldPacket}
 use Rattle.arriving.specs.Effect.{heardLine, ackedLine, ackedAll, storedLine, storedStore}
 use Rattle.arriving.specs.Arrive.{arriveTests, newsLine, arrivedLine, arrivedStore}
 use Rattle.book.specs.Resting.{allSpan}
-use Rattle.book.specs.Book.{openIn, linesFit, bookFits, whoseFrom}
+use Rattle.book.specs.Book.{openIn, linesFit, bookFits, ownerFrom}
 use Rattle.calls.specs.Call.{Call}
 use Rattle.calls.specs.Call as call
 use Rattle.calls.specs.Order.{openTests, modeTests, addressTests, arrivalTests, lineFor, tests}
-use Rattle.calls.specs.Did.{did, done, effect}
+use Rattle.calls.specs.Result.{resultOf, acceptedResult, effect}
 use Rattle.promise.specs.Build.{Does}
 use Rattle.promise.specs.Past.{Packet, Past, nothingYet, justOpened, tookPast, wrotePast, heardPast}
 use Rattle.promise.specs.Past as marks
@@ -63,13 +63,13 @@ fresh = freshWith zeros
 -- Two gateways of a build that opens lines and moves their modes as ours does.
 module _ (w t : Does) (a : Arrives) where
   abbrev f : Does
-  f = instead w t a did
+  f = instead w t a resultOf
 
   abbrev pub inside : Gateway
   inside = after f (after f fresh opening []) asks []
 
   pub begun : Goes f 0 0 5 98 fresh nothingYet fresh nothingYet inside justOpened inside justOpened
-  unfolding did done effect tests lineFor openTests modeTests bookFits linesFit allSpan openIn lineFits member noTwice allSpans owedFits modesFit sendingFits receivingFits sizes.sizesFit every asking moved timed channelsFor steppedTo
+  unfolding resultOf acceptedResult effect tests lineFor openTests modeTests bookFits linesFit allSpan openIn lineFits member noTwice allSpans owedFits modesFit sendingFits receivingFits sizes.sizesFit every askStep moved timed channelsFor steppedTo
   begun =
       there (here (there (here stay
       (opens refl (named 5) 0 [] refl refl refl))
@@ -79,14 +79,14 @@ module _ (w t : Does) (a : Arrives) where
 
 -- a run of two from line 0 to line 0
 abbrev pub run : (f : Does) {g h : Gateway} {p q : Past} → Goes f 0 0 5 98 fresh nothingYet fresh nothingYet g p h q → Run f 0 0 5 98 g p h q
-run f w = record { first = zeros; second = zeros; lines = (lit< tt, lit< tt); long = (lit≤ tt, lit≤ tt); goes = w }
+run f w = record { store1 = zeros; store2 = zeros; lines = (lit< tt, lit< tt); long = (lit≤ tt, lit≤ tt); goes = w }
 
 -- a message that is taken is counted
 pub holds-nothing-fails : Demand3 holdsNothing → ⊥
-unfolding did done effect tests lineFor openTests modeTests bookFits linesFit allSpan openIn lineFits member noTwice allSpans owedFits modesFit sendingFits receivingFits sizes.sizesFit every asking moved timed channelsFor steppedTo takeCallTests relayTests
+unfolding resultOf acceptedResult effect tests lineFor openTests modeTests bookFits linesFit allSpan openIn lineFits member noTwice allSpans owedFits modesFit sendingFits receivingFits sizes.sizesFit every askStep moved timed channelsFor steppedTo takeCallTests relayChannelTests
 holds-nothing-fails d =
-    let w = here (begun did forgets lets) (calls refl (call.taking 0 1 (7 ∷ [])) [] refl (λ _. refl) (took 1 (7 ∷ []) refl)) in
-    let n : _≡_ {A = ℕ} 1 0 = d .promised (run (instead did forgets lets did) w) .there 1 refl .counted in
+    let w = here (begun resultOf forgets lets) (calls refl (call.taking 0 1 (7 ∷ [])) [] refl (λ _. refl) (took 1 (7 ∷ []) refl)) in
+    let n : _≡_ {A = ℕ} 1 0 = d .promised (run (instead resultOf forgets lets resultOf) w) .there 1 refl .counted in
     omega (arith, n)
 
 -- What is taken at the one gateway and written there.
@@ -95,13 +95,13 @@ module _ (a : Arrives) where
   g = arriving a
 
   abbrev start : Gateway
-  start = inside did did a
+  start = inside resultOf resultOf a
 
   abbrev take : ℕ → Call
   take x = call.taking 0 1 (x ∷ [])
 
-  abbrev room : List ℕ
-  room = replicate 144 0
+  abbrev space : List ℕ
+  space = replicate 144 0
 
   abbrev holds : Gateway
   holds = after g start (take 7) []
@@ -110,30 +110,30 @@ module _ (a : Arrives) where
   past = tookPast justOpened 1 (7 ∷ [])
 
   abbrev packet : Packet
-  packet = sentPacket holds past 0 1 0 (does g holds (call.sending 0 1 0) room)
+  packet = sentPacket holds past 0 1 0 (does g holds (call.sending 0 1 0) space)
 
   abbrev sender : Gateway
-  sender = after g holds (call.sending 0 1 0) room
+  sender = after g holds (call.sending 0 1 0) space
 
   one-sent : Goes g 0 0 5 98 fresh nothingYet fresh nothingYet sender (wrotePast past packet) start justOpened
-  unfolding did done effect tests lineFor openTests modeTests bookFits linesFit allSpan openIn lineFits member noTwice allSpans owedFits modesFit sendingFits receivingFits sizes.sizesFit every asking moved timed channelsFor steppedTo takeCallTests relayTests tookOne regionOf sendTests heldPacket heldOf rankOf lowest setBelow acksFor firstThree baseFor wroteLine packetOctets withoutThree
+  unfolding resultOf acceptedResult effect tests lineFor openTests modeTests bookFits linesFit allSpan openIn lineFits member noTwice allSpans owedFits modesFit sendingFits receivingFits sizes.sizesFit every askStep moved timed channelsFor steppedTo takeCallTests relayChannelTests tookOne regionOf sendTests heldPacket heldOf rankOf lowest setBelow acksFor firstThree baseFor wroteLine packetOctets withoutThree
   one-sent =
-      here (here (begun did did a)
+      here (here (begun resultOf resultOf a)
       (calls refl (take 7) [] refl (λ _. refl) (took 1 (7 ∷ []) refl)))
-      (calls refl (call.sending 0 1 0) room refl (λ _. refl) (sent 1 0 refl))
+      (calls refl (call.sending 0 1 0) space refl (λ _. refl) (sent 1 0 refl))
 
   -- the packet is such as the premise speaks of
   honest : Honest justOpened (wrotePast past packet) (packet .octets) packet
-  unfolding did done effect tests lineFor openTests modeTests bookFits linesFit allSpan openIn lineFits member noTwice allSpans owedFits modesFit sendingFits receivingFits sizes.sizesFit every asking moved timed channelsFor steppedTo takeCallTests relayTests tookOne heldOf rankOf lowest setBelow
+  unfolding resultOf acceptedResult effect tests lineFor openTests modeTests bookFits linesFit allSpan openIn lineFits member noTwice allSpans owedFits modesFit sendingFits receivingFits sizes.sizesFit every askStep moved timed channelsFor steppedTo takeCallTests relayChannelTests tookOne heldOf rankOf lowest setBelow
   honest = record { written = List·Memᴰ·head refl; same = refl; carries = also (lit< tt) none; names = also (lit< tt) none; acks = none }
 
 -- it came, and nothing can be handed out
 pub stores-nothing-fails : Demand3 storesNothing → ⊥
-unfolding did done effect tests lineFor openTests modeTests bookFits linesFit allSpan openIn lineFits member noTwice allSpans owedFits modesFit sendingFits receivingFits sizes.sizesFit every asking moved timed channelsFor steppedTo takeCallTests relayTests tookOne regionOf sendTests heldPacket heldOf rankOf lowest setBelow acksFor firstThree baseFor wroteLine packetOctets withoutThree arrivalTests addressTests arriveTests whoseFrom headAt numberAt baseAt acksAt ackAt acksServed payloadOf reading.sizeFits bitsAt handCallTests
+unfolding resultOf acceptedResult effect tests lineFor openTests modeTests bookFits linesFit allSpan openIn lineFits member noTwice allSpans owedFits modesFit sendingFits receivingFits sizes.sizesFit every askStep moved timed channelsFor steppedTo takeCallTests relayChannelTests tookOne regionOf sendTests heldPacket heldOf rankOf lowest setBelow acksFor firstThree baseFor wroteLine packetOctets withoutThree arrivalTests addressTests arriveTests ownerFrom headAt numberAt baseAt acksAt ackAt acksServed payloadOf reading.sizeFits bitsAt handCallTests
 stores-nothing-fails d =
     let k = packet loses in
     let w = there (one-sent loses) (calls refl (call.arrival (k .octets)) [] refl (λ _. refl) (heard (k .octets) k refl refl (honest loses))) in
-    let e = d .ends (run (arriving loses) w) (refl, refl) (refl, refl) 1 refl .all-out came (λ n. room loses) (λ n. lit≤ tt) in
+    let e = d .ends (run (arriving loses) w) (refl, refl) (refl, refl) 1 refl .all-out came (λ n. space loses) (λ n. lit≤ tt) in
     none-out (e .hands) (e .all)
   where
     came : AllCame 1 (sender loses) 0 (wrotePast (past loses) (packet loses)) (heardPast justOpened (packet loses))
@@ -142,45 +142,45 @@ stores-nothing-fails d =
 
     none-out : {h′ : Gateway} {q′ : Past} → HandsOut (arriving loses) 0 1 (λ n. replicate 144 0) (start loses) (heardPast justOpened (packet loses)) h′ q′
         → q′ .handed 1 ≡ (7 ∷ []) ∷ [] → ⊥
-    none-out promise.done e = let n : _≡_ {A = ℕ} 0 1 = ap length e in omega (arith, n)
+    none-out promise.acceptedResult e = let n : _≡_ {A = ℕ} 0 1 = ap length e in omega (arith, n)
     none-out (promise.next t more) e = clash t
 
 -- Serving only the first: 7 and 8 are taken, 8 is written and arrives unread, and its acknowledgement comes back.
-abbrev first : Does
-first = arriving skips
+abbrev store1 : Does
+store1 = arriving skips
 
 abbrev both : Gateway
-both = after first (holds skips) (take skips 8) []
+both = after store1 (holds skips) (take skips 8) []
 
 abbrev bothPast : Past
 bothPast = tookPast (past skips) 1 (8 ∷ [])
 
-abbrev second : Packet
-second = sentPacket both bothPast 0 1 1 (does first both (call.sending 0 1 1) (room skips))
+abbrev store2 : Packet
+store2 = sentPacket both bothPast 0 1 1 (does store1 both (call.sending 0 1 1) (space skips))
 
 abbrev skipped : Gateway
-skipped = after first (start skips) (call.arrival (second .octets)) []
+skipped = after store1 (start skips) (call.arrival (store2 .octets)) []
 
 abbrev skippedPast : Past
-skippedPast = heardPast justOpened second
+skippedPast = heardPast justOpened store2
 
 abbrev ack : Packet
-ack = emptyPacket skipped skippedPast 0 0 (does first skipped (call.empty 0 0) (room skips))
+ack = emptyPacket skipped skippedPast 0 0 (does store1 skipped (call.empty 0 0) (space skips))
 
 -- message 8 waits, and is held at neither end
 pub first-only-fails : Demand3 firstOnly → ⊥
-unfolding did done effect tests lineFor openTests modeTests bookFits linesFit allSpan openIn lineFits member noTwice allSpans owedFits modesFit sendingFits receivingFits sizes.sizesFit every asking moved timed channelsFor steppedTo takeCallTests relayTests tookOne regionOf sendTests heldPacket heldOf rankOf lowest setBelow acksFor firstThree baseFor wroteLine packetOctets withoutThree arrivalTests addressTests arriveTests whoseFrom headAt numberAt baseAt acksAt ackAt acksServed payloadOf reading.sizeFits bitsAt arrivedLine newsLine heardLine heardBase ackedAll ackedLine ackedBy storedLine arrivalOf storedAt entered enters arrivedStore storedStore emptyTests writes.emptyPacket marks.there marks.renewed marks.enter marks.enterAll
+unfolding resultOf acceptedResult effect tests lineFor openTests modeTests bookFits linesFit allSpan openIn lineFits member noTwice allSpans owedFits modesFit sendingFits receivingFits sizes.sizesFit every askStep moved timed channelsFor steppedTo takeCallTests relayChannelTests tookOne regionOf sendTests heldPacket heldOf rankOf lowest setBelow acksFor firstThree baseFor wroteLine packetOctets withoutThree arrivalTests addressTests arriveTests ownerFrom headAt numberAt baseAt acksAt ackAt acksServed payloadOf reading.sizeFits bitsAt arrivedLine newsLine heardLine heardBase ackedAll ackedLine ackedBy storedLine arrivalOf storedAt entered enters arrivedStore storedStore emptyTests writes.emptyPacket marks.there marks.renewed marks.enter marks.enterAll
 first-only-fails d =
-    let w = here (there (there (here (here (here (begun did did skips)
+    let w = here (there (there (here (here (here (begun resultOf resultOf skips)
     (calls refl (take skips 7) [] refl (λ _. refl) (took 1 (7 ∷ []) refl)))
     (calls refl (take skips 8) [] refl (λ _. refl) (took 1 (8 ∷ []) refl)))
-    (calls refl (call.sending 0 1 1) (room skips) refl (λ _. refl) (sent 1 1 refl)))
-    (calls refl (call.arrival (second .octets)) [] refl (λ _. refl)
-    (heard (second .octets) second refl refl (record { written = List·Memᴰ·head refl; same = refl; carries = also (lit< tt) none; names = also (lit< tt) none; acks = none }))))
-    (calls refl (call.empty 0 0) (room skips) refl (λ _. refl) (wrote 0 refl)))
+    (calls refl (call.sending 0 1 1) (space skips) refl (λ _. refl) (sent 1 1 refl)))
+    (calls refl (call.arrival (store2 .octets)) [] refl (λ _. refl)
+    (heard (store2 .octets) store2 refl refl (record { written = List·Memᴰ·head refl; same = refl; carries = also (lit< tt) none; names = also (lit< tt) none; acks = none }))))
+    (calls refl (call.empty 0 0) (space skips) refl (λ _. refl) (wrote 0 refl)))
     (calls refl (call.arrival (ack .octets)) [] refl (λ _. refl)
     (heard (ack .octets) ack refl refl (record { written = List·Memᴰ·head refl; same = refl; carries = none; names = none; acks = also (lit< tt) none }))) in
-    ⊎-elim (λ e. gone e) (λ e. gone e) (d .promised (run first w) .there 1 refl .held 1 (lit≤ tt) (lit< tt) .1)
+    ⊎-elim (λ e. gone e) (λ e. gone e) (d .promised (run store1 w) .there 1 refl .held 1 (lit≤ tt) (lit< tt) .1)
   where
     gone : _≡_ {A = List ℕ} [] (8 ∷ []) → ⊥
     gone e = let n : _≡_ {A = ℕ} 0 1 = ap length e in omega (arith, n)

@@ -21,25 +21,25 @@ use Rattle.book.specs.Book.{lineOf}
 use Rattle.calls.specs.Call.{Call}
 use Rattle.calls.specs.Call as call
 use Rattle.calls.specs.Order.{lineFor}
-use Rattle.calls.specs.Did.{did, effect}
+use Rattle.calls.specs.Result.{resultOf, effect}
 use Rattle.promise.specs.Past.{Mark, Packet, Past, tookPast, wrotePast}
 use Rattle.promise.specs.Run.{Gateway, does, after, lineAt, Each, none, also, Recent, Honest, rankedMark, baseMark, sentPacket, took, sent}
 use Rattle.promise.specs.Promise.{sendsBy, reportBy}
 use Rattle.promise.specs.Demand3.{Serves}
 use Rattle.refuted.specs.Quick.{expected}
-use Rattle.promise.proofs.Own.{call-passes, line-left}
-use Rattle.promise.proofs.Lift.{run-kept}
+use Rattle.promise.proofs.OwnLine.{call-passes, line-left}
+use Rattle.promise.proofs.StepsKeep.{run-kept}
 use Rattle.promise.proofs.Demand2.{ours-demand2}
 use Rattle.promise.proofs.Demand3.{promised, report-counts}
 use Rattle.refuted.proofs.Twins.{Twin, turned, served, alike, ready, S-is, h-is, R-is, next-is}
 
-abbrev pub room : List ℕ
-room = replicate 144 0
+abbrev pub space : List ℕ
+space = replicate 144 0
 
 abbrev pub message : Message
 message = 7 ∷ []
 
--- k messages were taken, handed out, and their rooms are free again; nothing is owed, and nothing goes the other way
+-- k messages were taken, handed out, and their slots are free again; nothing is owed, and nothing goes the other way
 pub record At (k : ℕ) : Type 0 where
   pub g : Gateway
   pub p : Past
@@ -63,12 +63,12 @@ module _ {k : ℕ} (few : k ≤ 16384) (a : At k) where
   taking = call.taking 0 1 message
 
   abbrev pub g₁ : Gateway
-  g₁ = after did (a .g) taking []
+  g₁ = after resultOf (a .g) taking []
 
   abbrev pub p₁ : Past
   p₁ = tookPast (a .p) 1 message
 
-  takes : Serves did (a .g) 0 taking []
+  takes : Serves resultOf (a .g) 0 taking []
   takes = served t .takes 1 refl message (lit≤ tt) (lit≤ tt) (omega (arith, S-is t, a .taken, few)) (omega (arith, S-is t, h-is t, a .taken, a .base)) []
 
   pub t₁ : Twin g₁ p₁ (a .h) (a .q)
@@ -91,30 +91,30 @@ module _ {k : ℕ} (few : k ≤ 16384) (a : At k) where
       absurd (omega (arith, u, S-is t, a .taken)))
       (c .1)
 
-  pub ranked : (rank : ℕ) × (rank < reportBy did g₁ 0 1) × (rankedMark g₁ 0 1 rank .number ≡ k)
+  pub ranked : (rank : ℕ) × (rank < reportBy resultOf g₁ 0 1) × (rankedMark g₁ 0 1 rank .number ≡ k)
   ranked = served t₁ .ranks 1 refl k (omega (arith, h-is t₁, base₁)) (omega (arith, S-is t₁, taken₁)) held₁
 
   abbrev pub sending : Call
   sending = call.sending 0 1 (ranked .0)
 
-  sends : Serves did g₁ 0 sending room
-  sends = served t₁ .sends 1 refl (ranked .0) (ranked .1) room (lit≤ tt)
+  sends : Serves resultOf g₁ 0 sending space
+  sends = served t₁ .sends 1 refl (ranked .0) (ranked .1) space (lit≤ tt)
 
   abbrev pub packet : Packet
-  packet = sentPacket g₁ p₁ 0 1 (ranked .0) (does did g₁ sending room)
+  packet = sentPacket g₁ p₁ 0 1 (ranked .0) (does resultOf g₁ sending space)
 
   abbrev pub g₂ : Gateway
-  g₂ = after did g₁ sending room
+  g₂ = after resultOf g₁ sending space
 
   abbrev pub p₂ : Past
   p₂ = wrotePast p₁ packet
 
   pub t₂ : Twin g₂ p₂ (a .h) (a .q)
-  t₂ = alike t₁ sending room (t .mine .0) sends refl (sent 1 (ranked .0) (sends .accepted)) (sent 1 (ranked .0) (sends .accepted))
+  t₂ = alike t₁ sending space (t .mine .0) sends refl (sent 1 (ranked .0) (sends .accepted)) (sent 1 (ranked .0) (sends .accepted))
 
   pub base₂ : lineAt g₂ 0 .sending1 .base ≡ k
   unfolding lineFor effect wroteLine
-  base₂ = ap (λ (l : Line). l .sending1 .base) (line-left (run-kept (t₁ .ours) .mine) sending room refl (call-passes g₁ sending room (sends .accepted))) ∙ base₁
+  base₂ = ap (λ (l : Line). l .sending1 .base) (line-left (run-kept (t₁ .ours) .mine) sending space refl (call-passes g₁ sending space (sends .accepted))) ∙ base₁
 
   pub number : rankedMark g₁ 0 1 (ranked .0) .number ≡ k
   number = ranked .2
@@ -133,7 +133,7 @@ module _ {k : ℕ} (few : k ≤ 16384) (a : At k) where
 
   -- its number is k in its 14 bits
   says : headAt (packet .octets) ≡ headFor (lineAt g₁ 0) 1 (rankedMark g₁ 0 1 (ranked .0) .number % modulus)
-  says = ours-demand2 .sending-back g₁ 0 (ready t₁) (t₁ .mine .1) 1 refl (ranked .0) (omega (arith, ranked .1, report-counts (t₁ .ours) 1 refl (t₁ .mine))) room (lit≤ tt) .1 .head-back
+  says = ours-demand2 .sending-back g₁ 0 (ready t₁) (t₁ .mine .1) 1 refl (ranked .0) (omega (arith, ranked .1, report-counts (t₁ .ours) 1 refl (t₁ .mine))) space (lit≤ tt) .1 .head-back
 
   pub said-number : headAt (packet .octets) .number ≡ k % modulus
   said-number = ap (λ (x : Head). x .number) says ∙ ap (λ (n : ℕ). n % modulus) number

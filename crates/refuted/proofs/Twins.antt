@@ -11,7 +11,7 @@ use Rattle.ground.specs.Pick.{pick}
 use Rattle.line.specs.Line.{closedLine}
 use Rattle.book.specs.Book.{lineOf}
 use Rattle.calls.specs.Call.{Call}
-use Rattle.calls.specs.Did.{Did, did}
+use Rattle.calls.specs.Result.{CallResult, resultOf}
 use Rattle.promise.specs.Build.{Does}
 use Rattle.promise.specs.Past.{Past}
 use Rattle.promise.specs.Run.{Gateway, does, after, lineAt, Adds, Step, calls, here, Run}
@@ -22,7 +22,7 @@ use Rattle.promise.specs.Demand3.{Serves, Served}
 use Rattle.refuted.specs.Idle.{arriving}
 use Rattle.refuted.specs.Quick.{older}
 use Rattle.promise.proofs.Phases.{is-open}
-use Rattle.promise.proofs.Lift.{run-kept}
+use Rattle.promise.proofs.StepsKeep.{run-kept}
 use Rattle.promise.proofs.Demand3.{turned-run, promised, ours-demand3}
 
 abbrev pub f : Does
@@ -30,7 +30,7 @@ f = arriving older
 
 -- line 0 of both, identifier 5 and type 98
 pub record Twin (g : Gateway) (p : Past) (h : Gateway) (q : Past) : Type 0 where
-  pub ours : Run did 0 0 5 98 g p h q
+  pub ours : Run resultOf 0 0 5 98 g p h q
   pub sized : Run f 0 0 5 98 g p h q
   pub mine : InRelay g 0 p
   pub yours : InRelay h 0 q
@@ -40,20 +40,20 @@ turned t = record { ours = turned-run (t .ours); sized = turned-run (t .sized); 
 
 -- a run goes on with a step
 pub goes-on : {d : Does} {g g′ h : Gateway} {p p′ q : Past} → Run d 0 0 5 98 g p h q → Step d 0 5 98 q g p g′ p′ → Run d 0 0 5 98 g′ p′ h q
-goes-on r s = record { first = r .first; second = r .second; lines = r .lines; long = r .long; goes = here (r .goes) s }
+goes-on r s = record { store1 = r .store1; store2 = r .store2; lines = r .lines; long = r .long; goes = here (r .goes) s }
 
 module _ {g h : Gateway} {p q : Past} (t : Twin g p h q) where
-  pub served : Served did 0 0 5 98 g p h q
+  pub served : Served resultOf 0 0 5 98 g p h q
   served = ours-demand3 .served (t .ours) (t .mine)
 
   -- a call that both do alike
-  pub alike : (c : Call) (out : List ℕ) {p′ : Past} → p′ .opened ≡ true → Serves did g 0 c out → does f g c out ≡ does did g c out → Adds did 0 g p q out c p′ → Adds f 0 g p q out c p′
-      → Twin (after did g c out) p′ h q
+  pub alike : (c : Call) (out : List ℕ) {p′ : Past} → p′ .opened ≡ true → Serves resultOf g 0 c out → does f g c out ≡ does resultOf g c out → Adds resultOf 0 g p q out c p′ → Adds f 0 g p q out c p′
+      → Twin (after resultOf g c out) p′ h q
   alike c out {p′} o s same a b =
-      let step : Step f 0 5 98 q g p (after did g c out) p′
-      = subst (λ (d : Did). Step f 0 5 98 q g p (record { book = d .book; store = d .store }) p′) same
-      (calls (t .mine .0) c out (subst (λ (d : Did). lineOf (d .book) 0 .opened ≡ true) (sym same) (s .opened))
-      (λ _. subst (λ (d : Did). lineOf (d .book) 0 .modes .local ≡ 3) (sym same) (s .inside)) b) in
+      let step : Step f 0 5 98 q g p (after resultOf g c out) p′
+      = subst (λ (d : CallResult). Step f 0 5 98 q g p (record { book = d .book; store = d .store }) p′) same
+      (calls (t .mine .0) c out (subst (λ (d : CallResult). lineOf (d .book) 0 .opened ≡ true) (sym same) (s .opened))
+      (λ _. subst (λ (d : CallResult). lineOf (d .book) 0 .modes .local ≡ 3) (sym same) (s .inside)) b) in
       record { ours = goes-on (t .ours) (calls (t .mine .0) c out (s .opened) (λ _. s .inside) a); sized = goes-on (t .sized) step; mine = (o, s .inside); yours = t .yours }
 
   -- a book that BOOK lets pass

@@ -14,14 +14,14 @@ use Rattle.book.specs.Book.{lineOf, withLine}
 use Rattle.book.specs.declared.Book.{Book}
 use Rattle.calls.specs.Call as call
 use Rattle.calls.specs.Order.{lineFor}
-use Rattle.calls.specs.Did.{Did, made, did}
+use Rattle.calls.specs.Result.{CallResult, resultWith, resultOf}
 use Rattle.promise.specs.Build.{Does, Left, Build, ours}
 
 -- "one refusing everything", with whatever number
 abbrev pub refuser : Refusal → Build
 refuser r =
     record {
-      does = λ c b store out. made (refused r) b store out;
+      does = λ c b store out. resultWith (refused r) b store out;
       connectRead = λ s. refused r;
       connectWrite = λ c out. record { answer = refused r; out = out };
       breakRead = λ s. refused r;
@@ -33,7 +33,7 @@ refuser r =
 abbrev pub constantBody : List ℕ → Build
 constantBody s =
     let w : List ℕ → Left = λ out. record { answer = accepted (length s ∷ []); out = s ++ drop (length s) out } in
-    record { does = did; connectRead = ours .connectRead; connectWrite = λ c out. w out; breakRead = ours .breakRead; breakWrite = λ c out. w out; slipRead = ours .slipRead }
+    record { does = resultOf; connectRead = ours .connectRead; connectWrite = λ c out. w out; breakRead = ours .breakRead; breakWrite = λ c out. w out; slipRead = ours .slipRead }
 
 -- ours, but for what the calls do
 abbrev pub doing : Does → Build
@@ -42,37 +42,37 @@ doing f =
 
 -- what a packet that arrives does
 abbrev pub Arrives : Type 0
-Arrives = List ℕ → Book → List ℕ → List ℕ → Did
+Arrives = List ℕ → Book → List ℕ → List ℕ → CallResult
 
 -- ours, but for what is done where a packet is written, a message taken, a packet arrives or a report is asked for
 abbrev pub instead : Does → Does → Arrives → Does → Does
-instead writes takes arrives reports (call.opening i s time) = did (call.opening i s time)
-instead writes takes arrives reports (call.closing i) = did (call.closing i)
-instead writes takes arrives reports (call.mode i a) = did (call.mode i a)
+instead writes takes arrives reports (call.opening i s time) = resultOf (call.opening i s time)
+instead writes takes arrives reports (call.closing i) = resultOf (call.closing i)
+instead writes takes arrives reports (call.mode i a) = resultOf (call.mode i a)
 instead writes takes arrives reports (call.taking i channel m) = takes (call.taking i channel m)
 instead writes takes arrives reports (call.sending i channel rank) = writes (call.sending i channel rank)
 instead writes takes arrives reports (call.empty i channel) = writes (call.empty i channel)
 instead writes takes arrives reports (call.arrival s) = arrives s
-instead writes takes arrives reports (call.handOut i channel) = did (call.handOut i channel)
+instead writes takes arrives reports (call.handOut i channel) = resultOf (call.handOut i channel)
 instead writes takes arrives reports (call.report i channel) = reports (call.report i channel)
 
 abbrev pub lets : Arrives
-lets s = did (call.arrival s)
+lets s = resultOf (call.arrival s)
 
 abbrev pub arriving : Arrives → Does
-arriving a = instead did did a did
+arriving a = instead resultOf resultOf a resultOf
 
 -- "one giving a constant packet": every packet written is s
 abbrev pub constantPacket : List ℕ → Build
-constantPacket s = doing (instead (λ c b store out. made (accepted (length s ∷ [])) b store (s ++ drop (length s) out)) did lets did)
+constantPacket s = doing (instead (λ c b store out. resultWith (accepted (length s ∷ [])) b store (s ++ drop (length s) out)) resultOf lets resultOf)
 
 -- "one storing nothing": what ours accepts is accepted, and leaves nothing
 abbrev pub forgets : Does
-forgets c b store out = made (did c b store out .answer) b store out
+forgets c b store out = resultWith (resultOf c b store out .answer) b store out
 
 -- of messages taken
 abbrev pub holdsNothing : Build
-holdsNothing = doing (instead did forgets lets did)
+holdsNothing = doing (instead resultOf forgets lets resultOf)
 
 -- of packets that arrive
 abbrev pub loses : Arrives
@@ -88,17 +88,17 @@ unread old new = withSides new (new .sending1) (new .sending2) (old .receiving1)
 -- the packet's message is acknowledged and not stored
 abbrev pub ignored : Arrives
 ignored s b store out =
-    let d = did (call.arrival s) b store out in
+    let d = resultOf (call.arrival s) b store out in
     let i = lineFor (call.arrival s) b in
-    made (d .answer) (withLine b i (unread (lineOf b i) (lineOf (d .book) i))) store out
+    resultWith (d .answer) (withLine b i (unread (lineOf b i) (lineOf (d .book) i))) store out
 
 -- "one serving only the first message and acknowledging the later ones unread"
 abbrev pub skips : Arrives
-skips s b store out = pick (eqb (headAt s .number) 0) (did (call.arrival s) b store out) (ignored s b store out)
+skips s b store out = pick (eqb (headAt s .number) 0) (resultOf (call.arrival s) b store out) (ignored s b store out)
 
 abbrev pub firstOnly : Build
 firstOnly = doing (arriving skips)
 
 -- "A held count made up at will"
 abbrev pub madeUp : ℕ → Build
-madeUp n = doing (instead did did lets (λ c b store out. made (accepted (n ∷ [])) b store out))
+madeUp n = doing (instead resultOf resultOf lets (λ c b store out. resultWith (accepted (n ∷ [])) b store out))

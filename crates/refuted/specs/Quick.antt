@@ -19,13 +19,13 @@ use Rattle.book.specs.Book.{lineOf, withLine, openIn}
 use Rattle.book.specs.declared.Book.{Book}
 use Rattle.calls.specs.Call as call
 use Rattle.calls.specs.Order.{lineFor}
-use Rattle.calls.specs.Did.{made, did}
+use Rattle.calls.specs.Result.{resultWith, resultOf}
 use Rattle.promise.specs.Build.{Build}
 use Rattle.refuted.specs.Idle.{Arrives, doing, arriving, ignored}
 
 -- "Taking the line from the caller and not from the packet's identifier": the packet goes to the first open line
 abbrev pub misleads : Arrives
-misleads s b store out = did (call.arrival (getD (openIn (b .lines)) 0 0 ∷ drop 1 s)) b store out
+misleads s b store out = resultOf (call.arrival (getD (openIn (b .lines)) 0 0 ∷ drop 1 s)) b store out
 
 abbrev pub callersLine : Build
 callersLine = doing (arriving misleads)
@@ -42,9 +42,9 @@ freed l =
 
 abbrev pub frees : Arrives
 frees s b store out =
-    let d = did (call.arrival s) b store out in
+    let d = resultOf (call.arrival s) b store out in
     let i = lineFor (call.arrival s) b in
-    made (d .answer) (withLine (d .book) i (freed (lineOf (d .book) i))) (d .store) out
+    resultWith (d .answer) (withLine (d .book) i (freed (lineOf (d .book) i))) (d .store) out
 
 abbrev pub freesOnAck : Build
 freesOnAck = doing (arriving frees)
@@ -57,7 +57,7 @@ abbrev pub isOlder : List ℕ → Book → Bool
 isOlder s b = ltb (headAt s .number) (expected s b)
 
 abbrev pub older : Arrives
-older s b store out = pick (isOlder s b) (ignored s b store out) (did (call.arrival s) b store out)
+older s b store out = pick (isOlder s b) (ignored s b store out) (resultOf (call.arrival s) b store out)
 
 abbrev pub bySize : Build
 bySize = doing (arriving older)

@@ -64,14 +64,14 @@ took-line-keeps l channel n fits shaped pass =
     let t = took-keeps w largest narrow s (sending-side l k m channel) n (omega (arith, z, narrow)) (take-side l fits channel n pass) (take-fits l fits channel n pass) in
     (ok-line (tookLine l channel n) (with-sending-ok l k m channel (tookOne w s n) t), with-sending-shaped l shaped channel (tookOne w s n) (length-set (s .sizes) (nextPlace w s) n ∙ z))
 
-pub handed-line-keeps : (l : Line) (channel room : ℕ) → lineFits l ≡ true → Shaped l → verdict (handCallTests l channel room) ≡ Pass
+pub handed-line-keeps : (l : Line) (channel space : ℕ) → lineFits l ≡ true → Shaped l → verdict (handCallTests l channel space) ≡ Pass
     → (lineFits (handedLine l channel) ≡ true) × Shaped (handedLine l channel)
 unfolding handedOut
-handed-line-keeps l channel room fits shaped pass =
+handed-line-keeps l channel space fits shaped pass =
     let w = windowOf channel in
     let r = receivingOf l channel in
-    let asked = hand-asked l fits channel room pass in
+    let asked = hand-asked l fits channel space pass in
     let k = ok l fits channel asked in
     let m = inside l fits channel asked in
-    let t = handed-keeps w largest (hand-steps l fits channel room pass .narrow) r (receiving-side l k m channel) (hand-side l fits channel room pass) in
+    let t = handed-keeps w largest (hand-steps l fits channel space pass .narrow) r (receiving-side l k m channel) (hand-side l fits channel space pass) in
     (ok-line (handedLine l channel) (with-receiving-ok l k m channel (handedOut w r) t), with-receiving-shaped l shaped channel (handedOut w r) (receiving-long l shaped channel))

@@ -11,15 +11,15 @@ use Rattle.line.specs.Line.{receivingOf, withReceiving}
 use Rattle.line.specs.declared.Line.{Line}
 use Rattle.store.specs.Store.{regionOf, octetsIn}
 use Rattle.store.specs.declared.Way.the-variants.{Receiving}
-use Rattle.relay.specs.Asked.{relayTests}
+use Rattle.relay.specs.RelayTests.{relayChannelTests}
 
--- "hand-out: NOLINE, MODE, CHANNEL, SPENT .., NOTHING, ROOM"; room is the output's length
+-- "hand-out: NOLINE, MODE, CHANNEL, SPENT .., NOTHING, ROOM"; space is the output's length
 unfoldable pub handCallTests : Line → ℕ → ℕ → List Test
-handCallTests l channel room = relayTests l channel ++ (handTests (receivingOf l channel) ++ (must (leb (nextSize (receivingOf l channel)) room) ROOM ∷ []))
+handCallTests l channel space = relayChannelTests l channel ++ (handTests (receivingOf l channel) ++ (must (leb (nextSize (receivingOf l channel)) space) ROOM ∷ []))
 
 -- "Handing out gives message R": its octets
 abbrev pub handedOctets : Line → ℕ → ℕ → List ℕ → List ℕ
-handedOctets l i channel store = octetsIn store (regionOf i Receiving channel) (receivingOf l channel .first) (nextSize (receivingOf l channel))
+handedOctets l i channel store = octetsIn store (regionOf i Receiving channel) (receivingOf l channel .origin) (nextSize (receivingOf l channel))
 
 -- "and moves R on"
 abbrev pub handedLine : Line → ℕ → Line

@@ -1,3 +1,3 @@
-pub mod Asked
+pub mod RelayTests
 pub mod Take
 pub mod HandOut

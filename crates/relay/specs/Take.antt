@@ -11,18 +11,18 @@ use Rattle.sending.specs.Sending.{takeTests, nextPlace, tookOne}
 use Rattle.line.specs.Line.{sendingOf, withSending}
 use Rattle.line.specs.Fit.{largest}
 use Rattle.line.specs.declared.Line.{Line}
-use Rattle.store.specs.Store.{regionOf, roomAt}
+use Rattle.store.specs.Store.{regionOf, slotAt}
 use Rattle.store.specs.declared.Way.the-variants.{Sending}
-use Rattle.relay.specs.Asked.{relayTests}
+use Rattle.relay.specs.RelayTests.{relayChannelTests}
 
 -- "Message taken: NOLINE, MODE, CHANNEL, SIZE, SPENT, FULL"; n is its length
 unfoldable pub takeCallTests : Line → ℕ → ℕ → List Test
-takeCallTests l channel n = relayTests l channel ++ (must (sizeFits largest n) SIZE ∷ takeTests (windowOf channel) (sendingOf l channel))
+takeCallTests l channel n = relayChannelTests l channel ++ (must (sizeFits largest n) SIZE ∷ takeTests (windowOf channel) (sendingOf l channel))
 
 -- the line with message S of the channel taken
 abbrev pub tookLine : Line → ℕ → ℕ → Line
 tookLine l channel n = withSending l channel (tookOne (windowOf channel) (sendingOf l channel) n)
 
--- and the store with its octets in the room of its place
+-- and the store with its octets in the slot of its place
 abbrev pub tookStore : Line → ℕ → ℕ → List ℕ → List ℕ → List ℕ
-tookStore l i channel message store = sets store (roomAt (regionOf i Sending channel) (nextPlace (windowOf channel) (sendingOf l channel))) message
+tookStore l i channel message store = sets store (slotAt (regionOf i Sending channel) (nextPlace (windowOf channel) (sendingOf l channel))) message

@@ -1,4 +1,4 @@
-// What the relay calls do to one line and to its rooms in the store: document 01, 'Packets' and the paragraph 'Order'.
+// What the relay calls do to one line and to its slots in the store: document 01, 'Packets' and the paragraph 'Order'.
 // Each call is a verdict, worked out first, and an effect, made only where the verdict lets it pass. Books, lookups and the
 // tests of book and store are left to others: a verdict asks that the line meets what BOOK asks.
 ghost use mathlib.Core.Path.{_≡_};
@@ -9,7 +9,7 @@ ghost use lib.ListN.{length, drop};
 ghost use Rattle.ground.specs.Refusal.{verdict};
 ghost use Rattle.ground.specs.declared.Verdict.the-variants.{Pass};
 ghost use Rattle.line.specs.Fit.{lineFits};
-ghost use Rattle.relay.specs.Asked.{insideTests, relayTests};
+ghost use Rattle.relay.specs.RelayTests.{relayLineTests, relayChannelTests};
 ghost use Rattle.sending.specs.Sending.{heldCount};
 ghost use Rattle.receiving.specs.Receiving.{nextSize};
 ghost use Rattle.line.specs.Line.{sendingOf, receivingOf};
@@ -24,8 +24,8 @@ use store::Region;
 use store::Way;
 
 // What every call on a line's channels asks first: NOLINE, MODE.
-pub fn inside(l: Line) -> Verdict
-    ensures { λ r. ⌜ r ≡ verdict (insideTests l) ⌝ }
+pub fn line_verdict(l: Line) -> Verdict
+    ensures { λ r. ⌜ r ≡ verdict (relayLineTests l) ⌝ }
 {
     if !l.opened {
         return Verdict::Refuse(Refusal::NOLINE);
@@ -38,11 +38,11 @@ pub fn inside(l: Line) -> Verdict
 }
 
 // And what a call on a reliable channel asks: NOLINE, MODE, CHANNEL.
-pub fn asked(l: Line, channel: u8) -> Verdict
-    ensures { λ r. ⌜ r ≡ verdict (relayTests l channel) ⌝ }
+pub fn channel_verdict(l: Line, channel: u8) -> Verdict
+    ensures { λ r. ⌜ r ≡ verdict (relayChannelTests l channel) ⌝ }
 {
-    let first = inside(l);
-    match first {
+    let earlier = line_verdict(l);
+    match earlier {
         Verdict::Refuse(r) => Verdict::Refuse(r),
         Verdict::Pass => {
             if (channel == 1) | (channel == 2) {
@@ -59,8 +59,8 @@ pub fn may_take(l: Line, channel: u8, n: usize) -> Verdict
     requires { ⌜ lineFits l ≡ true ⌝ }
     ensures { λ r. ⌜ r ≡ verdict (takeCallTests l channel n) ⌝ }
 {
-    let first = asked(l, channel);
-    match first {
+    let earlier = channel_verdict(l, channel);
+    match earlier {
         Verdict::Refuse(r) => Verdict::Refuse(r),
         Verdict::Pass => {
             if (0 < n) & (n <= 132) {
@@ -74,7 +74,7 @@ pub fn may_take(l: Line, channel: u8, n: usize) -> Verdict
     }
 }
 
-// Takes a message: its octets go into the room of its place, and the line has one message more.
+// Takes a message: its octets go into the slot of its place, and the line has one message more.
 pub fn take(l: Line, i: u8, store: &mut [u8], channel: u8, message: &[u8]) -> Line
     requires { ⌜ (lineFits l ≡ true) × (i < 4) × (42240 ≤ length (now store)) × (verdict (takeCallTests l channel (length (now message))) ≡ Pass) ⌝ }
     ensures { λ r. ⌜ (r ≡ tookLine l channel (length (now (message .entry)))) × (now (store .exit) ≡ tookStore l i channel (now (message .entry)) (now (store .entry))) ⌝ }
@@ -88,13 +88,13 @@ pub fn take(l: Line, i: u8, store: &mut [u8], channel: u8, message: &[u8]) -> Li
     l.with_sending(channel, next)
 }
 
-// May message R be handed out into `room` octets? NOLINE, MODE, CHANNEL, SPENT, NOTHING, ROOM.
-pub fn may_hand_out(l: Line, channel: u8, room: usize) -> Verdict
+// May message R be handed out into `space` octets? NOLINE, MODE, CHANNEL, SPENT, NOTHING, ROOM.
+pub fn may_hand_out(l: Line, channel: u8, space: usize) -> Verdict
     requires { ⌜ lineFits l ≡ true ⌝ }
-    ensures { λ r. ⌜ r ≡ verdict (handCallTests l channel room) ⌝ }
+    ensures { λ r. ⌜ r ≡ verdict (handCallTests l channel space) ⌝ }
 {
-    let first = asked(l, channel);
-    match first {
+    let earlier = channel_verdict(l, channel);
+    match earlier {
         Verdict::Refuse(r) => Verdict::Refuse(r),
         Verdict::Pass => {
             let side = l.receiving(channel);
@@ -102,7 +102,7 @@ pub fn may_hand_out(l: Line, channel: u8, room: usize) -> Verdict
             match second {
                 Verdict::Refuse(r) => Verdict::Refuse(r),
                 Verdict::Pass => {
-                    if (side.next_size() as usize) <= room {
+                    if (side.next_size() as usize) <= space {
                         Verdict::Pass
                     } else {
                         Verdict::Refuse(Refusal::ROOM)
@@ -122,7 +122,7 @@ pub fn hand_out(l: Line, i: u8, store: &[u8], channel: u8, out: &mut [u8]) -> Li
     let window = Channel::of(channel).window;
     let region = Region::of(i, Way::Receiving, channel);
     let size = side.next_size() as usize;
-    region.copy_out(store, side.first, size, out);
+    region.copy_out(store, side.origin, size, out);
     l.with_receiving(channel, side.handed_out(window))
 }
 

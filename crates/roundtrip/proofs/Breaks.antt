@@ -14,10 +14,10 @@ use Rattle.breaks.specs.declared.Reading.the-variants.{Says, Refused}
 use Rattle.breaks.proofs.Writes.{fits-room}
 
 -- a body that may be written reads back
-pub round : (b : Break) (room : ℕ) → verdict (writeTests b room) ≡ Pass → breakRead (breakOctets b) ≡ Says b
+pub round : (b : Break) (space : ℕ) → verdict (writeTests b space) ≡ Pass → breakRead (breakOctets b) ≡ Says b
 unfolding breakAt breakOctets
-round b room ok =
-    let t = passed (writeTests b room) ok in
+round b space ok =
+    let t = passed (writeTests b space) ok in
     let r = reads-whole 2 (layout b) (fits-room b (t .0)) refl in
     let s : List ℕ = breakOctets b in
     let e : breakAt s ≡ b = λ i. record { source = r .0 i; kind = r .1 .0 i; lasts = r .1 .1 .0 i } in

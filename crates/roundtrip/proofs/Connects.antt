@@ -14,7 +14,7 @@ use Rattle.ground.specs.declared.Verdict.the-variants.{Pass}
 use Rattle.ground.proofs.Picks.{each, both-true}
 use Rattle.ground.proofs.Verdicts.{passed, passes}
 use Rattle.ground.proofs.Settled.{settles-took}
-use Rattle.field.specs.Layout.{packed, Room, Reads}
+use Rattle.field.specs.Layout.{packed, InWidth, Reads}
 use Rattle.field.proofs.Laws.{bits-past}
 use Rattle.field.proofs.Packs.{room-append, reads-whole, reads-append}
 use Rattle.connect.specs.Spans.{nothing, bisWay, richWay, sizeOf, sizesFit, numbersFit}
@@ -39,16 +39,16 @@ bis-zero : (w : Way) → bisWay w ≡ true → w .history ≡ 0
 bis-zero w e = eqb-true _ _ (each (leb 512 (w .dictionary) ∷ leb (w .dictionary) 65535 ∷ leb 6 (w .string) ∷ leb (w .string) 250 ∷ eqb (w .history) 0 ∷ []) e .1 .1 .1 .1 .0)
 
 module _ (c : Connect) (f : numbersFit c ≡ true) (g : sizesFit c ≡ true) where
-  room : Room (baseFields c)
-  room = base-room c f
+  space : InWidth (baseFields c)
+  space = base-room c f
 
   small : Small c (c .transmit) × Small c (c .receive)
   small = sizes-small c g
 
-  bis-room : Room (bisFields c)
+  bis-room : InWidth (bisFields c)
   bis-room = (small .0 .dictionary, (small .1 .dictionary, (small .0 .string, (small .1 .string, tt))))
 
-  history-room : Room (historyFields c)
+  history-room : InWidth (historyFields c)
   history-room = (small .0 .history, (small .1 .history, tt))
 
   -- all fields of Table 25 are read at their places, in each length; those with no place are 0
@@ -58,16 +58,16 @@ module _ (c : Connect) (f : numbersFit c ≡ true) (g : sizesFit c ≡ true) whe
       let s : List ℕ = packed (baseFields c ++ bisFields c) in
       let b = both-true (bisWay (c .transmit)) (nothing (c .receive)) e in
       reads-append s 0 (baseFields c ++ bisFields c) (historyFields c)
-      (reads-whole 14 (baseFields c ++ bisFields c) (room-append (baseFields c) (bisFields c) room bis-room) refl)
+      (reads-whole 14 (baseFields c ++ bisFields c) (room-append (baseFields c) (bisFields c) space bis-room) refl)
       (bits-past s 112 16 (lit≤ tt) ∙ sym (bis-zero (c .transmit) (b .0)), (bits-past s 128 16 (lit≤ tt) ∙ sym (none-zero (c .receive) (b .1) .2), tt))
   whole false true e =
-      reads-whole 18 (baseFields c ++ (bisFields c ++ historyFields c)) (room-append (baseFields c) (bisFields c ++ historyFields c) room (room-append (bisFields c) (historyFields c) bis-room history-room)) refl
+      reads-whole 18 (baseFields c ++ (bisFields c ++ historyFields c)) (room-append (baseFields c) (bisFields c ++ historyFields c) space (room-append (bisFields c) (historyFields c) bis-room history-room)) refl
   whole false false e =
       let s : List ℕ = packed (baseFields c ++ []) in
       let b = both-true (nothing (c .transmit)) (nothing (c .receive)) e in
       let t = none-zero (c .transmit) (b .0) in
       let r = none-zero (c .receive) (b .1) in
-      reads-append s 0 (baseFields c) (bisFields c ++ historyFields c) (reads-whole 8 (baseFields c) room refl) (
+      reads-append s 0 (baseFields c) (bisFields c ++ historyFields c) (reads-whole 8 (baseFields c) space refl) (
         bits-past s 64 16 (lit≤ tt) ∙ sym (t .0),
         (
           bits-past s 80 16 (lit≤ tt) ∙ sym (r .0),
@@ -109,12 +109,12 @@ module _ (c : Connect) (f : numbersFit c ≡ true) (g : sizesFit c ≡ true) whe
       }
 
 -- a body that may be written reads back
-module _ (c : Connect) (room : ℕ) (ok : verdict (writeTests c room) ≡ Pass) where
+module _ (c : Connect) (space : ℕ) (ok : verdict (writeTests c space) ≡ Pass) where
   pub round : connectRead (connectOctets c) ≡ Says c
   unfolding numbersFit
   round =
       let s : List ℕ = connectOctets c in
-      let t = passed (writeTests c room) ok in
+      let t = passed (writeTests c space) ok in
       let b = both-true (numbersFit c) (sizesFit c) (t .1 .0) in
       let e = connect-back c (b .0) (b .1) in
       let p : compressionAt s ≡ c .compression = reads c (b .0) (b .1) .1 .1 .0 in

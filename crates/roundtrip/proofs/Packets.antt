@@ -20,12 +20,12 @@ use Rattle.field.specs.Layout.{Field, octets, wordOctets, widths, join, packed,
 use Rattle.field.proofs.Packs.{Wide, pack-cut, reads-back, word-there}
 use Rattle.field.specs.Word.{channelOf, served}
 use Rattle.packet.specs.Acks.{ackList, named, blank, acksServed, acksBlank}
-use Rattle.packet.specs.Read.{headTests, listTests, headRead, acksRead, headAt, acksAt, ackAt, numberAt, baseAt, payloadOf, payloadFits, sizeFits, headerAt, countAt, channelAt}
+use Rattle.packet.specs.Read.{headTests, listTests, headRead, acksRead, headAt, acksAt, ackAt, numberAt, baseAt, payloadOf, payloadFits, sizeFits, headerLength, countAt, channelAt}
 use Rattle.packet.specs.Write.{fixedFields, ackFields, layout, packetOctets, fieldsFit, numbersPlaced, writeTests}
 use Rattle.packet.specs.declared.Head.{Head}
 use Rattle.packet.specs.declared.Acks.{Acks}
-use Rattle.packet.specs.declared.HeadRead.the-variants as head
-use Rattle.packet.specs.declared.AcksRead.the-variants as acks
+use Rattle.packet.specs.declared.HeadReading.the-variants as head
+use Rattle.packet.specs.declared.AcksReading.the-variants as acks
 use Rattle.packet.proofs.Writes.{wide-take, list-words, list-room, list-wide, list-length, header-length, fits-room, fits-count}
 
 -- acknowledgements that are served are words of 16 bits
@@ -46,9 +46,9 @@ served-wide n a b c e =
     go (suc (suc zero)) f g h = (f (omega arith), (g (omega arith), tt))
     go (suc (suc (suc m))) f g h = (f (omega arith), (g (omega arith), (h (omega arith), wide-take m [] tt)))
 
-module _ (h : Head) (a : Acks) (payload : List ℕ) (largest room : ℕ) (ok : verdict (writeTests h a payload largest room) ≡ Pass) where
-  tests : Holds (writeTests h a payload largest room)
-  tests = passed (writeTests h a payload largest room) ok
+module _ (h : Head) (a : Acks) (payload : List ℕ) (largest space : ℕ) (ok : verdict (writeTests h a payload largest space) ≡ Pass) where
+  tests : Holds (writeTests h a payload largest space)
+  tests = passed (writeTests h a payload largest space) ok
 
   s : List ℕ
   s = packetOctets h a payload
@@ -64,7 +64,7 @@ module _ (h : Head) (a : Acks) (payload : List ℕ) (largest room : ℕ) (ok : v
 
   wide : Wide (ackList a)
   unfolding acksServed
-  wide = served-wide (a .count) (a .first) (a .second) (a .third) all-served
+  wide = served-wide (a .count) (a .one) (a .two) (a .three) all-served
 
   -- the packet in its parts: six octets, the list, the payload
   parts : s ≡ packed (fixedFields h (a .count)) ++ (wordOctets (ackList a) ++ payload)
@@ -104,12 +104,12 @@ module _ (h : Head) (a : Acks) (payload : List ℕ) (largest room : ℕ) (ok : v
   unfolding acksAt acksBlank fieldsFit
   acks-back =
       let f = each (ltb (h .identifier) 128 ∷ ltb (h .kind) 128 ∷ ltb (h .number) 16384 ∷ ltb (h .base) 16384 ∷ leb (a .count) 3 ∷ acksBlank a ∷ numbersPlaced h (length payload) ∷ []) (tests .0) in
-      let b = each (blank (a .count) 0 (a .first) ∷ blank (a .count) 1 (a .second) ∷ blank (a .count) 2 (a .third) ∷ []) (f .1 .1 .1 .1 .1 .0) in
-      let ws : List ℕ = a .first ∷ a .second ∷ a .third ∷ [] in
-      let x = ack-back 0 (a .first) (b .0) (getD-take (a .count) ws 0 0) in
-      let y = ack-back 1 (a .second) (b .1 .0) (getD-take (a .count) ws 1 0) in
-      let z = ack-back 2 (a .third) (b .1 .1 .0) (getD-take (a .count) ws 2 0) in
-      λ i. record { count = counted i; first = x i; second = y i; third = z i }
+      let b = each (blank (a .count) 0 (a .one) ∷ blank (a .count) 1 (a .two) ∷ blank (a .count) 2 (a .three) ∷ []) (f .1 .1 .1 .1 .1 .0) in
+      let ws : List ℕ = a .one ∷ a .two ∷ a .three ∷ [] in
+      let x = ack-back 0 (a .one) (b .0) (getD-take (a .count) ws 0 0) in
+      let y = ack-back 1 (a .two) (b .1 .0) (getD-take (a .count) ws 1 0) in
+      let z = ack-back 2 (a .three) (b .1 .1 .0) (getD-take (a .count) ws 2 0) in
+      λ i. record { count = counted i; one = x i; two = y i; three = z i }
 
   own : channelAt s ≡ h .channel
   own = fixed .1 .1 .1 .1 .0
@@ -135,8 +135,8 @@ module _ (h : Head) (a : Acks) (payload : List ℕ) (largest room : ℕ) (ok : v
   number-back =
       pick-by (λ (x : ℕ). x ≡ h .number) (eqb (channelAt s) 0)
       (λ t. sym (on-none (sym own ∙ eqb-true _ _ t) .0))
-      (λ t. pick-by (λ (x : ℕ). x ≡ h .number) (leb (length s) (headerAt s))
-      (λ u. let l : length s ≤ headerAt s = leb-true _ _ u in sym (on-empty (λ c. eqb-false _ _ t (own ∙ c)) (omega (arith, long, counted))))
+      (λ t. pick-by (λ (x : ℕ). x ≡ h .number) (leb (length s) (headerLength s))
+      (λ u. let l : length s ≤ headerLength s = leb-true _ _ u in sym (on-empty (λ c. eqb-false _ _ t (own ∙ c)) (omega (arith, long, counted))))
       (λ u. fixed .1 .1 .1 .1 .1 .0))
 
   base-back : baseAt s ≡ h .base
@@ -162,7 +162,7 @@ module _ (h : Head) (a : Acks) (payload : List ℕ) (largest room : ℕ) (ok : v
   pub acks-round : acksRead (packetOctets h a payload) ≡ acks.Says a
   unfolding s
   acks-round =
-      let l : headerAt s ≤ length s = omega (arith, long, counted) in
+      let l : headerLength s ≤ length s = omega (arith, long, counted) in
       let c : channelAt s < 3 = omega (arith, own, channel) in
       let f = together (ltb (channelAt s) 3 ∷ acksServed (acksAt s) ∷ []) (lt-ltb _ _ c, (ap acksServed acks-back ∙ all-served, tt)) in
       sym (settles-took (verdict (listTests s)) acks.Refused (acks.Says (acksAt s)) refl (passes (listTests s) (le-leb _ _ l, (f, tt))) (ap acks.Says (sym acks-back)))
@@ -170,12 +170,12 @@ module _ (h : Head) (a : Acks) (payload : List ℕ) (largest room : ℕ) (ok : v
   -- the payload reads back, and is not too large
   pub payload-round : payloadOf (packetOctets h a payload) ≡ payload
   unfolding payloadOf packetOctets s
-  payload-round = drop-at (packed (layout h a)) payload (headerAt s) (header-length h a count ∙ ap (λ (n : ℕ). 6 + 2 * n) (sym counted))
+  payload-round = drop-at (packed (layout h a)) payload (headerLength s) (header-length h a count ∙ ap (λ (n : ℕ). 6 + 2 * n) (sym counted))
 
   pub size-round : payloadFits (packetOctets h a payload) largest ≡ true
   unfolding s
   size-round =
-      let n : length s - headerAt s ≡ length payload = omega (arith, long, counted) in
+      let n : length s - headerLength s ≡ length payload = omega (arith, long, counted) in
       (λ i. sizeFits (own i) (n i) largest) ∙ tests .1 .1 .0
 
 -- two packets that are written alike are one

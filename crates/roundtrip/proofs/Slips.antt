@@ -18,14 +18,14 @@ use Rattle.slip.specs.declared.Reading.the-variants.{Says, Refused}
 use Rattle.slip.proofs.Writes.{fits-room}
 
 -- a slip that may be written reads back
-pub round : (v : Slip) (room : ℕ) → verdict (writeTests v room) ≡ Pass → slipRead (slipOctets v) ≡ Says v
+pub round : (v : Slip) (space : ℕ) → verdict (writeTests v space) ≡ Pass → slipRead (slipOctets v) ≡ Says v
 unfolding slipAt slipOctets formFits
-round v room ok =
-    let t = passed (writeTests v room) ok in
+round v space ok =
+    let t = passed (writeTests v space) ok in
     let r = reads-whole 12 (layout v) (fits-room v (t .0)) refl in
     let s : List ℕ = slipOctets v in
     let q = r .1 in
-    let e : slipAt s ≡ v = λ i. record { identifier = q .0 i; kind = q .1 .0 i; first = q .1 .1 .0 i; second = q .1 .1 .1 .0 i; reason = q .1 .1 .1 .1 .0 i } in
+    let e : slipAt s ≡ v = λ i. record { identifier = q .0 i; kind = q .1 .0 i; count1 = q .1 .1 .0 i; count2 = q .1 .1 .1 .0 i; reason = q .1 .1 .1 .1 .0 i } in
     let f = together (eqb (bitsAt s 0 4) 1 ∷ eqb (bitsAt s 74 22) 0 ∷ []) (eq-eqb _ _ (r .0), (eq-eqb _ _ (q .1 .1 .1 .1 .1 .0), tt)) in
     sym (settles-took (verdict (readTests s)) Refused (Says (slipAt s)) refl (passes (readTests s) (refl, (f, (ap slipFits e ∙ t .0, tt)))) (ap Says (sym e)))
 

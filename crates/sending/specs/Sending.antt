@@ -20,7 +20,7 @@ use Rattle.sending.specs.declared.Ranked.{Ranked}
 use Rattle.sending.specs.declared.Ranked.the-variants.{Is, Nothing}
 
 abbrev pub freshSending : Sending
-freshSending = record { taken = 0; base = 0; unacked = setOf 0; first = 0; sizes = replicate 32 0 }
+freshSending = record { taken = 0; base = 0; unacked = setOf 0; origin = 0; sizes = replicate 32 0 }
 
 -- how many messages are under way: S - h
 abbrev pub underWay : Sending → ℕ
@@ -32,7 +32,7 @@ takeTests w s = must (ltb (s .taken) cap) SPENT ∷ must (ltb (underWay s) w) FU
 
 -- the place of the next message taken, which is message S
 abbrev pub nextPlace : ℕ → Sending → ℕ
-nextPlace w s = placeOf (s .first) (underWay s) w
+nextPlace w s = placeOf (s .origin) (underWay s) w
 
 -- message S is taken: it is held, and has `size` octets
 unfoldable pub tookOne : ℕ → Sending → ℕ → Sending
@@ -40,7 +40,7 @@ tookOne w s size = record {
   taken = s .taken + 1;
   base = s .base;
   unacked = setOf (withBit (maskOf (s .unacked)) (underWay s));
-  first = s .first;
+  origin = s .origin;
   sizes = set (s .sizes) (nextPlace w s) size;
 }
 
@@ -50,7 +50,7 @@ movedBy w s d = record {
   taken = s .taken;
   base = s .base + d;
   unacked = setOf (maskOf (s .unacked) / 2 ^ d);
-  first = placeOf (s .first) d w;
+  origin = placeOf (s .origin) d w;
   sizes = s .sizes;
 }
 
@@ -64,7 +64,7 @@ droppedAt s d = record {
   taken = s .taken;
   base = s .base;
   unacked = setOf (withoutBit (maskOf (s .unacked)) d);
-  first = s .first;
+  origin = s .origin;
   sizes = s .sizes;
 }
 
@@ -81,7 +81,7 @@ acknowledgedBy s k = record { side = ackedBy s k; named = namedBy s k }
 
 -- leaving modem relay "empties its stores": nothing is held any more; "S, h and R stay"
 unfoldable pub emptiedSending : Sending → Sending
-emptiedSending s = record { taken = s .taken; base = s .base; unacked = setOf 0; first = s .first; sizes = s .sizes }
+emptiedSending s = record { taken = s .taken; base = s .base; unacked = setOf 0; origin = s .origin; sizes = s .sizes }
 
 -- "A report says how many messages are held there unacknowledged"
 abbrev pub heldCount : Sending → ℕ
@@ -89,7 +89,7 @@ heldCount s = countOf (maskOf (s .unacked))
 
 -- message h + i with its place and size
 abbrev pub heldAt : ℕ → Sending → Place → Ranked
-heldAt w s (At i) = Is (record { number = s .base + i; place = placeOf (s .first) i w; size = getD (s .sizes) (placeOf (s .first) i w) 0 })
+heldAt w s (At i) = Is (record { number = s .base + i; place = placeOf (s .origin) i w; size = getD (s .sizes) (placeOf (s .origin) i w) 0 })
 heldAt w s Missing = Nothing
 
 -- "by its rank among the unacknowledged ones of its channel, oldest 0"
@@ -103,9 +103,9 @@ sendingTests w z s =
     leb (s .taken) cap
     ∷ leb (s .base) (s .taken)
     ∷ leb (underWay s) w
-    ∷ ltb (s .first) w
+    ∷ ltb (s .origin) w
     ∷ within (underWay s) (maskOf (s .unacked))
-    ∷ sizesFit w z (s .sizes) (maskOf (s .unacked)) (s .first)
+    ∷ sizesFit w z (s .sizes) (maskOf (s .unacked)) (s .origin)
     ∷ []
 
 unfoldable pub sendingFits : ℕ → ℕ → Sending → Bool
@@ -116,6 +116,6 @@ pub record SendingOk (w : ℕ) (s : Sending) : Type 0 where
   pub capped : s .taken ≤ cap
   pub ordered : s .base ≤ s .taken
   pub windowed : s .taken - s .base ≤ w
-  pub placed : s .first < w
+  pub placed : s .origin < w
   pub masked : maskOf (s .unacked) < 2 ^ (s .taken - s .base)
   pub narrow : w ≤ widest

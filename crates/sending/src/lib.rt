@@ -24,7 +24,7 @@ pub struct Sending {
     // Place i is in the set where message h + i is held unacknowledged. All are below S - h.
     pub unacked: Places,
     // The place of message h; message h + i lies i places further on. Below the window.
-    pub first: u32,
+    pub origin: u32,
     // By place: how many octets the message there has.
     pub sizes: [u16; 32],
 }
@@ -59,7 +59,7 @@ impl Sending {
             taken: 0,
             base: 0,
             unacked: none,
-            first: 0,
+            origin: 0,
             sizes,
         }
     }
@@ -83,7 +83,7 @@ impl Sending {
         requires { ⌜ SendingOk window self ⌝ }
         ensures { λ r. ⌜ r ≡ nextPlace window self ⌝ }
     {
-        place(self.first, self.taken - self.base, window)
+        place(self.origin, self.taken - self.base, window)
     }
 
     // One message more, of `size` octets.
@@ -115,7 +115,7 @@ impl Sending {
         let mut next = self;
         next.base = self.base + d;
         next.unacked = self.unacked.dropped(d);
-        next.first = place(self.first, d, window);
+        next.origin = place(self.origin, d, window);
         next
     }
 
@@ -163,7 +163,7 @@ impl Sending {
         let found = self.unacked.rank(rank);
         match found {
             Place::At(i) => {
-                let at = place(self.first, i, window);
+                let at = place(self.origin, i, window);
                 let p = at as usize;
                 let size = self.sizes[p];
                 Ranked::Is(Held {
@@ -191,13 +191,13 @@ impl Sending {
         if window < n {
             return false;
         }
-        if window <= self.first {
+        if window <= self.origin {
             return false;
         }
         if !self.unacked.within(n) {
             return false;
         }
         let sizes = self.sizes;
-        sizes_fit(sizes, self.unacked, self.first, window, largest)
+        sizes_fit(sizes, self.unacked, self.origin, window, largest)
     }
 }

@@ -7,17 +7,17 @@ use borrow.Author.Tests.{eqb-false}
 use Rattle.ground.specs.Refusal.{verdict}
 use Rattle.ground.proofs.Picks.{pick-by}
 use Rattle.ground.proofs.Settled.{settled-by}
-use Rattle.mode.specs.Recovery.{tickTests, due, tickedAnswer, ticking}
+use Rattle.mode.specs.Recovery.{tickTests, due, tickedAnswer, tickStep}
 use Rattle.mode.specs.Moved.{ended}
 use Rattle.mode.specs.declared.Modes.{Modes}
-use Rattle.mode.specs.declared.Ticking.{Ticking}
+use Rattle.mode.specs.declared.TickStep.{TickStep}
 use Rattle.mode.proofs.Tries.{due-tries}
 use Rattle.signals.specs.Tries.{Tries}
 
-pub tick-tries : (m : Modes) (time : ℕ) → Tries (ticking m time .answer)
-unfolding ticking tickedAnswer
+pub tick-tries : (m : Modes) (time : ℕ) → Tries (tickStep m time .answer)
+unfolding tickStep tickedAnswer
 tick-tries m time =
-    settled-by (λ (t : Ticking). Tries (t .answer)) (verdict (tickTests m time))
+    settled-by (λ (t : TickStep). Tries (t .answer)) (verdict (tickTests m time))
     (λ r e. tt)
     (λ _.
     pick-by Tries (ended m) (λ _. tt)

@@ -4,41 +4,41 @@ ghost use Prim.Native.Nat.{ℕ};
 ghost use mathlib.Core.Path.{_≡_};
 ghost use mathlib.Core.List.{List};
 ghost use Rattle.mode.specs.Acts as act;
-ghost use Rattle.mode.specs.Says.{heardSays, askedSays, tickedSays};
+ghost use Rattle.mode.specs.Says.{hearSays, askSays, tickSays};
 ghost use Rattle.calls.specs.Call as call;
-ghost use Rattle.calls.specs.Did.{made, did};
+ghost use Rattle.calls.specs.Result.{resultWith, resultOf};
 ghost use Rattle.signals.specs.Tries.{Tries};
 use book::Book;
 use ground::Verdict;
-use mode::Asked;
-use mode::Heard;
-use mode::Ticked;
+use mode::AskAnswer;
+use mode::HearAnswer;
+use mode::TickAnswer;
 
-pub struct Hears {
+pub struct Heard {
     pub book: Book,
-    pub answer: Heard,
+    pub answer: HearAnswer,
 }
 
-pub struct Asks {
+pub struct Asked {
     pub book: Book,
-    pub answer: Asked,
+    pub answer: AskAnswer,
 }
 
-pub struct Ticks {
+pub struct Ticked {
     pub book: Book,
-    pub answer: Ticked,
+    pub answer: TickAnswer,
 }
 
 // Hears an indication of the far gateway's mode. Answers S, and whether a P' notice is to be sent.
 // Refuses BOOK, RANGE for the line, NOLINE, CLOCK, RECOVERY, RANGE for the mode.
-pub fn hear(book: Book, line: u8, mode: u8, time: u64) -> Hears
-    ensures { λ r. ⌜ ((store out : List ℕ) → made (heardSays (r .answer)) (r .book) store out ≡ did (call.mode line (act.hear mode time)) book store out) ⌝ }
+pub fn hear(book: Book, line: u8, mode: u8, time: u64) -> Heard
+    ensures { λ r. ⌜ ((store out : List ℕ) → resultWith (hearSays (r .answer)) (r .book) store out ≡ resultOf (call.mode line (act.hear mode time)) book store out) ⌝ }
 {
-    let verdict = calls::may_move(book, line);
+    let verdict = calls::may_change_mode(book, line);
     match verdict {
-        Verdict::Refuse(r) => Hears {
+        Verdict::Refuse(r) => Heard {
             book,
-            answer: Heard::Refused(r),
+            answer: HearAnswer::Refused(r),
         },
         Verdict::Pass => {
             let l = book.line(line);
@@ -47,20 +47,20 @@ pub fn hear(book: Book, line: u8, mode: u8, time: u64) -> Hears
             let channels = heard.channels;
             let stepped = l.stepped(heard.modes, channels);
             let next = book.with_line(line, stepped);
-            Hears { book: next, answer }
+            Heard { book: next, answer }
         }
     }
 }
 
 // Requests a mode. Answers S. Refuses BOOK, RANGE for the line, NOLINE, CLOCK, RECOVERY, RANGE for the mode, MODE.
-pub fn ask(book: Book, line: u8, mode: u8, time: u64) -> Asks
-    ensures { λ r. ⌜ ((store out : List ℕ) → made (askedSays (r .answer)) (r .book) store out ≡ did (call.mode line (act.ask mode time)) book store out) ⌝ }
+pub fn ask(book: Book, line: u8, mode: u8, time: u64) -> Asked
+    ensures { λ r. ⌜ ((store out : List ℕ) → resultWith (askSays (r .answer)) (r .book) store out ≡ resultOf (call.mode line (act.ask mode time)) book store out) ⌝ }
 {
-    let verdict = calls::may_move(book, line);
+    let verdict = calls::may_change_mode(book, line);
     match verdict {
-        Verdict::Refuse(r) => Asks {
+        Verdict::Refuse(r) => Asked {
             book,
-            answer: Asked::Refused(r),
+            answer: AskAnswer::Refused(r),
         },
         Verdict::Pass => {
             let l = book.line(line);
@@ -69,21 +69,21 @@ pub fn ask(book: Book, line: u8, mode: u8, time: u64) -> Asks
             let channels = asked.channels;
             let stepped = l.stepped(asked.modes, channels);
             let next = book.with_line(line, stepped);
-            Asks { book: next, answer }
+            Asked { book: next, answer }
         }
     }
 }
 
 // Tells a line the time. Answers whether an audio indication is due, and which try, or that recovery has ended the line.
 // Refuses BOOK, RANGE for the line, NOLINE, CLOCK.
-pub fn tick(book: Book, line: u8, time: u64) -> Ticks
-    ensures { λ r. ⌜ ((store out : List ℕ) → made (tickedSays (r .answer)) (r .book) store out ≡ did (call.mode line (act.tick time)) book store out) × Tries (r .answer) ⌝ }
+pub fn tick(book: Book, line: u8, time: u64) -> Ticked
+    ensures { λ r. ⌜ ((store out : List ℕ) → resultWith (tickSays (r .answer)) (r .book) store out ≡ resultOf (call.mode line (act.tick time)) book store out) × Tries (r .answer) ⌝ }
 {
-    let verdict = calls::may_move(book, line);
+    let verdict = calls::may_change_mode(book, line);
     match verdict {
-        Verdict::Refuse(r) => Ticks {
+        Verdict::Refuse(r) => Ticked {
             book,
-            answer: Ticked::Refused(r),
+            answer: TickAnswer::Refused(r),
         },
         Verdict::Pass => {
             let l = book.line(line);
@@ -92,7 +92,7 @@ pub fn tick(book: Book, line: u8, time: u64) -> Ticks
             let channels = ticked.channels;
             let stepped = l.stepped(ticked.modes, channels);
             let next = book.with_line(line, stepped);
-            Ticks { book: next, answer }
+            Ticked { book: next, answer }
         }
     }
 }

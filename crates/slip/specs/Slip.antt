@@ -17,13 +17,13 @@ use Rattle.slip.specs.declared.Reading.the-variants.{Says, Refused}
 
 -- "form 1 (4 bits), identifier (7), payload type (7), messages handed out on channel 1 (24) and channel 2 (24), reason (8 ..), 22 zero bits"
 abbrev pub layout : Slip → List Field
-layout v = of 4 1 ∷ of 7 (v .identifier) ∷ of 7 (v .kind) ∷ of 24 (v .first) ∷ of 24 (v .second) ∷ of 8 (v .reason) ∷ of 22 0 ∷ []
+layout v = of 4 1 ∷ of 7 (v .identifier) ∷ of 7 (v .kind) ∷ of 24 (v .count1) ∷ of 24 (v .count2) ∷ of 8 (v .reason) ∷ of 22 0 ∷ []
 
 unfoldable pub slipOctets : Slip → List ℕ
 slipOctets v = packed (layout v)
 
 unfoldable pub slipAt : List ℕ → Slip
-slipAt s = record { identifier = bitsAt s 4 7; kind = bitsAt s 11 7; first = bitsAt s 18 24; second = bitsAt s 42 24; reason = bitsAt s 66 8 }
+slipAt s = record { identifier = bitsAt s 4 7; kind = bitsAt s 11 7; count1 = bitsAt s 18 24; count2 = bitsAt s 42 24; reason = bitsAt s 66 8 }
 
 -- FORM: "a slip's form not 1 or a zero bit set"
 unfoldable pub formFits : List ℕ → Bool
@@ -34,7 +34,7 @@ unfoldable pub slipFits : Slip → Bool
 slipFits v =
     allHold
     (ltb (v .identifier) 128 ∷ leb 96 (v .kind) ∷ ltb (v .kind) 128
-    ∷ ltb (v .first) 16777216 ∷ ltb (v .second) 16777216 ∷ leb (v .reason) 1 ∷ [])
+    ∷ ltb (v .count1) 16777216 ∷ ltb (v .count2) 16777216 ∷ leb (v .reason) 1 ∷ [])
 
 -- "Slip read: LENGTH, FORM, RANGE"
 abbrev pub readTests : List ℕ → List Test
@@ -42,11 +42,11 @@ readTests s = must (eqb (length s) 12) LENGTH ∷ must (formFits s) FORM ∷ mus
 
 -- a slip is written by closing, whose only refusal of its own is ROOM
 abbrev pub writeTests : Slip → ℕ → List Test
-writeTests v room = must (slipFits v) RANGE ∷ must (leb 12 room) ROOM ∷ []
+writeTests v space = must (slipFits v) RANGE ∷ must (leb 12 space) ROOM ∷ []
 
 -- what each case of a reading stands for: the slip's values in the order of its fields, or the refusal's number
 abbrev pub answerOf : Reading → Answer
-answerOf (Says v) = accepted (v .identifier ∷ v .kind ∷ v .first ∷ v .second ∷ v .reason ∷ [])
+answerOf (Says v) = accepted (v .identifier ∷ v .kind ∷ v .count1 ∷ v .count2 ∷ v .reason ∷ [])
 answerOf (Refused r) = refused r
 
 abbrev pub slipRead : List ℕ → Reading

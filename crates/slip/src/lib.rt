@@ -8,7 +8,7 @@ ghost use Rattle.ground.specs.Answer.{Gives, Writes};
 ghost use Rattle.slip.specs.Slip.{slipAt, slipFits, formFits, slipOctets, answerOf, readTests, writeTests};
 use ground::Refusal;
 use ground::Verdict;
-use ground::Written;
+use ground::WriteAnswer;
 
 pub struct Slip {
     // 0 to 127.
@@ -16,9 +16,9 @@ pub struct Slip {
     // The payload type, 96 to 127.
     pub kind: u8,
     // Messages handed out on channel 1, at most 16,777,215.
-    pub first: u32,
+    pub count1: u32,
     // And on channel 2.
-    pub second: u32,
+    pub count2: u32,
     // Why the line was closed: ASKED or ENDED.
     pub reason: u8,
 }
@@ -46,8 +46,8 @@ fn slip_at(s: &[u8]) -> Slip
     Slip {
         identifier: (a >> 21 & 0x7f) as u8,
         kind: (a >> 14 & 0x7f) as u8,
-        first: (a & 0x3fff) << 10 | b >> 22,
-        second: (b & 0x3fffff) << 2 | c >> 30,
+        count1: (a & 0x3fff) << 10 | b >> 22,
+        count2: (b & 0x3fffff) << 2 | c >> 30,
         reason: (c >> 22 & 0xff) as u8,
     }
 }
@@ -67,8 +67,8 @@ fn slip_fits(v: Slip) -> bool
     (v.identifier < 128)
         & (96 <= v.kind)
         & (v.kind < 128)
-        & (v.first < 16777216)
-        & (v.second < 16777216)
+        & (v.count1 < 16777216)
+        & (v.count2 < 16777216)
         & (v.reason <= 1)
 }
 
@@ -98,13 +98,13 @@ pub fn read(s: &[u8]) -> Reading
     }
 }
 
-fn write_verdict(v: Slip, room: usize) -> Verdict
-    ensures { λ r. ⌜ r ≡ verdict (writeTests v room) ⌝ }
+fn write_verdict(v: Slip, space: usize) -> Verdict
+    ensures { λ r. ⌜ r ≡ verdict (writeTests v space) ⌝ }
 {
     if slip_fits(v) {} else {
         return Verdict::Refuse(Refusal::RANGE);
     }
-    if 12 <= room {
+    if 12 <= space {
         Verdict::Pass
     } else {
         Verdict::Refuse(Refusal::ROOM)
@@ -122,21 +122,21 @@ fn put(out: &mut [u8], v: Slip)
     field::put_long(
         out,
         0,
-        ((1 << 7 | identifier) << 7 | kind) << 14 | v.first >> 10,
+        ((1 << 7 | identifier) << 7 | kind) << 14 | v.count1 >> 10,
     );
-    field::put_long(out, 4, (v.first & 0x3ff) << 22 | v.second >> 2);
-    field::put_long(out, 8, ((v.second & 3) << 8 | reason) << 22);
+    field::put_long(out, 4, (v.count1 & 0x3ff) << 22 | v.count2 >> 2);
+    field::put_long(out, 8, ((v.count2 & 3) << 8 | reason) << 22);
 }
 
 // A slip written: RANGE, ROOM.
-pub fn write(out: &mut [u8], v: Slip) -> Written
+pub fn write(out: &mut [u8], v: Slip) -> WriteAnswer
     ensures { λ r. ⌜ Writes (writeTests v (length (now (out .entry)))) (slipOctets v) (now (out .entry)) (now (out .exit)) r ⌝ }
 {
     match write_verdict(v, out.len()) {
-        Verdict::Refuse(r) => Written::Refused(r),
+        Verdict::Refuse(r) => WriteAnswer::Refused(r),
         Verdict::Pass => {
             put(out, v);
-            Written::Wrote(12)
+            WriteAnswer::Wrote(12)
         }
     }
 }

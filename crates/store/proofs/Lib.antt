@@ -1,2 +1,2 @@
 pub mod Octets
-pub mod Rooms
+pub mod Slots

@@ -1,4 +1,4 @@
--- A message put into its room is read back from there; every other room, and every octet past the store, stays as it was.
+-- A message put into its slot is read back from there; every other slot, and every octet past the store, stays as it was.
 -- Assumes nothing.
 use Prim.Native.Nat.{ℕ, _+_, _-_, _≤_, _<_}
 use mathlib.Core.Path.{_≡_, sym, ap, _∙_}
@@ -8,9 +8,9 @@ use native.Mathlib.Nat.{le-refl}
 use native.Mathlib.Omega.{arith}
 use lib.ListN.{length, take, drop, length-drop, take-append-drop}
 use lib.Seq.{sets, sets-eq, length-sets, take-append-le, drop-append-le, drop-at, drop-drop, drop-append-add, length-take-le, take-append-seam, take-take}
-use Rattle.store.specs.Store.{roomAt, regionEnd, RoomIn, octetsIn, roomOf}
+use Rattle.store.specs.Store.{slotAt, regionEnd, SlotIn, octetsIn, slotOctets}
 use Rattle.store.specs.declared.Region.{Region}
-use Rattle.store.proofs.Rooms.{Apart, Before, places-apart, regions-rooms, Whose, Served, region, region-end, room-end}
+use Rattle.store.proofs.Slots.{Apart, Before, places-apart, regions-rooms, Owner, Served, region, region-end, slot-end}
 
 -- Octets x written into a list s from octet b on.
 module _ (s : List ℕ) (b : ℕ) (x : List ℕ) (fits : b + length x ≤ length s) where
@@ -43,56 +43,56 @@ module _ (s : List ℕ) (b : ℕ) (x : List ℕ) (fits : b + length x ≤ length
       (x ++ drop (b + length x) s) (length x + k)
       ∙ drop-append-add x (drop (b + length x) s) k ∙ drop-drop k (b + length x) s ∙ ap (λ (j : ℕ). drop j s) f)
 
--- A message put into the room of place p.
-module _ (s : List ℕ) (g : Region) (p : ℕ) (x : List ℕ) (r : RoomIn g p (length s)) (small : length x ≤ g .size) where
-  in-store : roomAt g p + length x ≤ length s
-  in-store = omega (arith, room-end g p (r .placed), r .inside)
+-- A message put into the slot of place p.
+module _ (s : List ℕ) (g : Region) (p : ℕ) (x : List ℕ) (r : SlotIn g p (length s)) (small : length x ≤ g .size) where
+  in-store : slotAt g p + length x ≤ length s
+  in-store = omega (arith, slot-end g p (r .placed), r .inside)
 
-  -- it is what the room holds
-  pub put-same : octetsIn (sets s (roomAt g p) x) g p (length x) ≡ x
-  put-same = read-same s (roomAt g p) x in-store
+  -- it is what the slot holds
+  pub put-same : octetsIn (sets s (slotAt g p) x) g p (length x) ≡ x
+  put-same = read-same s (slotAt g p) x in-store
 
-  -- a room that has none of its octets holds what it held
-  pub put-other : (k : Region) (q n : ℕ) → n ≤ k .size → Apart (roomAt g p) (g .size) (roomAt k q) (k .size)
-      → octetsIn (sets s (roomAt g p) x) k q n ≡ octetsIn s k q n
+  -- a slot that has none of its octets holds what it held
+  pub put-other : (k : Region) (q n : ℕ) → n ≤ k .size → Apart (slotAt g p) (g .size) (slotAt k q) (k .size)
+      → octetsIn (sets s (slotAt g p) x) k q n ≡ octetsIn s k q n
   put-other k q n l =
-      ⊎-elim (λ a. ap (take n) (behind s (roomAt g p) x in-store (roomAt k q) (omega arith)))
-      (λ a. read-before s (roomAt g p) x in-store (roomAt k q) n (omega arith))
+      ⊎-elim (λ a. ap (take n) (behind s (slotAt g p) x in-store (slotAt k q) (omega arith)))
+      (λ a. read-before s (slotAt g p) x in-store (slotAt k q) n (omega arith))
 
   -- the octets behind its region, those past the store among them, stay
-  pub put-past : (n : ℕ) → regionEnd g ≤ n → drop n (sets s (roomAt g p) x) ≡ drop n s
-  put-past n l = behind s (roomAt g p) x in-store n (omega (arith, room-end g p (r .placed)))
+  pub put-past : (n : ℕ) → regionEnd g ≤ n → drop n (sets s (slotAt g p) x) ≡ drop n s
+  put-past n l = behind s (slotAt g p) x in-store n (omega (arith, slot-end g p (r .placed)))
 
-  pub put-length : length (sets s (roomAt g p) x) ≡ length s
-  put-length = length-sets s (roomAt g p) x
+  pub put-length : length (sets s (slotAt g p) x) ≡ length s
+  put-length = length-sets s (slotAt g p) x
 
--- The rooms of a region as a function of the place: what the two sides of a channel are read with.
+-- The slots of a region as a function of the place: what the two sides of a channel are read with.
 module _ (s : List ℕ) (g : Region) (inside : regionEnd g ≤ length s) where
-  -- a room has as many octets as the largest message
-  pub room-length : (q : ℕ) → q < g .places → length (roomOf s g q) ≡ g .size
-  room-length q l = length-take-le (g .size) (drop (roomAt g q) s) (omega (arith, room-end g q l, length-drop (roomAt g q) s))
+  -- a slot has as many octets as the largest message
+  pub slot-length : (q : ℕ) → q < g .places → length (slotOctets s g q) ≡ g .size
+  slot-length q l = length-take-le (g .size) (drop (slotAt g q) s) (omega (arith, slot-end g q l, length-drop (slotAt g q) s))
 
   -- the first n of them
-  pub room-front : (q n : ℕ) → n ≤ g .size → take n (roomOf s g q) ≡ octetsIn s g q n
-  room-front q n l = take-take n (g .size) (drop (roomAt g q) s) l
+  pub slot-front : (q n : ℕ) → n ≤ g .size → take n (slotOctets s g q) ≡ octetsIn s g q n
+  slot-front q n l = take-take n (g .size) (drop (slotAt g q) s) l
 
   module _ (p : ℕ) (x : List ℕ) (placed : p < g .places) (small : length x ≤ g .size) where
-    in-room : RoomIn g p (length s)
+    in-room : SlotIn g p (length s)
     in-room = record { placed = placed; inside = inside }
 
     -- a message put into one of them lies at its front
-    pub room-put : take (length x) (roomOf (sets s (roomAt g p) x) g p) ≡ x
-    room-put = take-take (length x) (g .size) (drop (roomAt g p) (sets s (roomAt g p) x)) small ∙ put-same s g p x in-room small
+    pub slot-put : take (length x) (slotOctets (sets s (slotAt g p) x) g p) ≡ x
+    slot-put = take-take (length x) (g .size) (drop (slotAt g p) (sets s (slotAt g p) x)) small ∙ put-same s g p x in-room small
 
     -- and each other is as it was, in this region and in any other
-    pub room-kept : (q : ℕ) → q ≢ p → roomOf (sets s (roomAt g p) x) g q ≡ roomOf s g q
-    room-kept q d = put-other s g p x in-room small g q (g .size) (le-refl (g .size)) (places-apart g p q (λ e. d (sym e)))
+    pub slot-kept : (q : ℕ) → q ≢ p → slotOctets (sets s (slotAt g p) x) g q ≡ slotOctets s g q
+    slot-kept q d = put-other s g p x in-room small g q (g .size) (le-refl (g .size)) (places-apart g p q (λ e. d (sym e)))
 
-    pub region-kept : (k : Region) → Before g k ⊎ Before k g → (q : ℕ) → q < k .places → roomOf (sets s (roomAt g p) x) k q ≡ roomOf s k q
+    pub region-kept : (k : Region) → Before g k ⊎ Before k g → (q : ℕ) → q < k .places → slotOctets (sets s (slotAt g p) x) k q ≡ slotOctets s k q
     region-kept k a q l = put-other s g p x in-room small k q (k .size) (le-refl (k .size)) (regions-rooms g k p q placed l a)
 
 -- "Octets past it are never touched": whichever line, way and channel the message is of
-pub past-stays : (s : List ℕ) (y : Whose) (p : ℕ) (x : List ℕ) → Served y → p < region y .places → length x ≤ region y .size → 42240 ≤ length s
-    → drop 42240 (sets s (roomAt (region y) p) x) ≡ drop 42240 s
+pub past-stays : (s : List ℕ) (y : Owner) (p : ℕ) (x : List ℕ) → Served y → p < region y .places → length x ≤ region y .size → 42240 ≤ length s
+    → drop 42240 (sets s (slotAt (region y) p) x) ≡ drop 42240 s
 past-stays s y p x v l small long =
     put-past s (region y) p x (record { placed = l; inside = omega (arith, region-end y v) }) small 42240 (region-end y v)

@@ -17,30 +17,30 @@ wayNumber Receiving = 1
 abbrev pub startOf : ℕ → Way → ℕ
 startOf line way = (line * 2 + wayNumber way) * (40 * 132)
 
--- the one definition of where the rooms of a line, a way and a channel lie: 32 places of channel 1, then 8 of channel 2
+-- the one definition of where the slots of a line, a way and a channel lie: 32 places of channel 1, then 8 of channel 2
 unfoldable pub regionOf : ℕ → Way → ℕ → Region
 regionOf line way channel =
     pick (eqb channel 1)
     (record { start = startOf line way; places = 32; size = 132 })
     (record { start = startOf line way + 32 * 132; places = 8; size = 132 })
 
--- the octet that the room of a place begins at
-abbrev pub roomAt : Region → ℕ → ℕ
-roomAt g place = g .start + place * g .size
+-- the octet that the slot of a place begins at
+abbrev pub slotAt : Region → ℕ → ℕ
+slotAt g place = g .start + place * g .size
 
 -- the octet behind a region's last
 abbrev pub regionEnd : Region → ℕ
 regionEnd g = g .start + g .places * g .size
 
--- a place has a room in the region, and the region lies in the first n octets
-pub record RoomIn (g : Region) (place n : ℕ) : Type 0 where
+-- a place has a slot in the region, and the region lies in the first n octets
+pub record SlotIn (g : Region) (place n : ℕ) : Type 0 where
   pub placed : place < g .places
   pub inside : regionEnd g ≤ n
 
--- the first `size` octets in the room of a place
+-- the first `size` octets in the slot of a place
 abbrev pub octetsIn : List ℕ → Region → ℕ → ℕ → List ℕ
-octetsIn store g place size = take size (drop (roomAt g place) store)
+octetsIn store g place size = take size (drop (slotAt g place) store)
 
--- all the octets in the room of a place
-abbrev pub roomOf : List ℕ → Region → ℕ → List ℕ
-roomOf store g place = octetsIn store g place (g .size)
+-- all the octets in the slot of a place
+abbrev pub slotOctets : List ℕ → Region → ℕ → List ℕ
+slotOctets store g place = octetsIn store g place (g .size)

@@ -1,12 +1,12 @@
 // Where message octets lie in one lent store (document 01, 'Packets': 4 lines, 2 ways, 40 messages of 132), and how they are put
-// there and copied out. A region is the rooms of one line, way and channel: where it starts, how many rooms it has and their size.
-// What lies in a room, and for how long, is said by the record of the side that owns it.
+// there and copied out. A region is the slots of one line, way and channel: where it starts, how many slots it has and their size.
+// What lies in a slot, and for how long, is said by the record of the side that owns it.
 ghost use mathlib.Core.Path.{_≡_};
 ghost use mathlib.Core.List.{_++_};
 ghost use Prim.Native.Nat.{_+_, _*_, _^_, _≤_, _<_};
 ghost use lib.ListN.{length, drop};
 ghost use lib.Seq.{sets};
-ghost use Rattle.store.specs.Store.{wayNumber, regionOf, roomAt, RoomIn, octetsIn};
+ghost use Rattle.store.specs.Store.{wayNumber, regionOf, slotAt, SlotIn, octetsIn};
 
 // The way that messages go: taken for sending, or stored as they arrive.
 pub enum Way {
@@ -27,11 +27,11 @@ impl Way {
 }
 
 pub struct Region {
-    // The octet that the first room begins at.
+    // The octet that the first slot begins at.
     pub start: usize,
-    // How many rooms there are, one for each place of the window.
+    // How many slots there are, one for each place of the window.
     pub places: u32,
-    // How many octets a room has: the largest message's.
+    // How many octets a slot has: the largest message's.
     pub size: usize,
 }
 
@@ -39,12 +39,12 @@ impl Region {
     // How many octets all regions have.
     pub const LENGTH: usize = 42240;
 
-    // The rooms of both channels of one line and way.
+    // The slots of both channels of one line and way.
     pub const ROOMS: usize = 40;
 
     pub const SIZE: usize = 132;
 
-    // The region of a line, a way and a channel: 32 rooms of channel 1, then 8 of channel 2.
+    // The region of a line, a way and a channel: 32 slots of channel 1, then 8 of channel 2.
     pub fn of(line: u8, way: Way, channel: u8) -> Region
         ensures { λ r. ⌜ r ≡ regionOf line way channel ⌝ }
     {
@@ -64,20 +64,20 @@ impl Region {
         }
     }
 
-    // The octet that the room of a place begins at.
-    pub fn room(self, place: u32) -> usize
-        requires { ⌜ roomAt self place < 2 ^ 64 ⌝ }
-        ensures { λ r. ⌜ r ≡ roomAt self place ⌝ }
+    // The octet that the slot of a place begins at.
+    pub fn slot(self, place: u32) -> usize
+        requires { ⌜ slotAt self place < 2 ^ 64 ⌝ }
+        ensures { λ r. ⌜ r ≡ slotAt self place ⌝ }
     {
         self.start + place as usize * self.size
     }
 
-    // Puts a message into the room of a place, from the room's first octet on. All other octets stay.
+    // Puts a message into the slot of a place, from the slot's first octet on. All other octets stay.
     pub fn put(self, store: &mut [u8], place: u32, message: &[u8])
-        requires { ⌜ RoomIn self place (length (now store)) × (length (now message) ≤ self .size) ⌝ }
-        ensures { λ _. ⌜ now (store .exit) ≡ sets (now (store .entry)) (roomAt self place) (now (message .entry)) ⌝ }
+        requires { ⌜ SlotIn self place (length (now store)) × (length (now message) ≤ self .size) ⌝ }
+        ensures { λ _. ⌜ now (store .exit) ≡ sets (now (store .entry)) (slotAt self place) (now (message .entry)) ⌝ }
     {
-        let at = self.room(place);
+        let at = self.slot(place);
         let mut i = 0;
         while i < message.len() {
             store[at + i] = message[i];
@@ -85,12 +85,12 @@ impl Region {
         }
     }
 
-    // Copies the first `size` octets in the room of a place to the front of an output. The output's other octets stay.
+    // Copies the first `size` octets in the slot of a place to the front of an output. The output's other octets stay.
     pub fn copy_out(self, store: &[u8], place: u32, size: usize, out: &mut [u8])
-        requires { ⌜ RoomIn self place (length (now store)) × (size ≤ self .size) × (size ≤ length (now out)) ⌝ }
+        requires { ⌜ SlotIn self place (length (now store)) × (size ≤ self .size) × (size ≤ length (now out)) ⌝ }
         ensures { λ _. ⌜ now (out .exit) ≡ octetsIn (now (store .entry)) self place size ++ drop size (now (out .entry)) ⌝ }
     {
-        let from = self.room(place);
+        let from = self.slot(place);
         let mut i = 0;
         while i < size {
             out[i] = store[from + i];

@@ -12,7 +12,7 @@ use Rattle.ground.specs.Refusal.{verdict}
 use Rattle.ground.specs.declared.Verdict.the-variants.{Pass, Refuse}
 use Rattle.field.specs.Bits.{bitsAt}
 use Rattle.packet.specs.Acks.{acksServed}
-use Rattle.packet.specs.Read.{headRead, acksRead, headAt, numberAt, baseAt, acksAt, ackAt, headAnswer, acksAnswer, payloadOf}
+use Rattle.packet.specs.Read.{headRead, acksRead, headAt, numberAt, baseAt, acksAt, ackAt, headSays, acksSays, payloadOf}
 use Rattle.packet.specs.Write.{packetOctets}
 use Rattle.connect.specs.Spans.{sizeOf, sizesFit}
 use Rattle.connect.specs.Read.{connectRead, connectAt, wayAt}
@@ -30,8 +30,8 @@ use Rattle.sending.specs.declared.Sending.{Sending}
 use Rattle.mode.specs.declared.Modes.{Modes}
 use Rattle.mode.specs.Given.{unknown, audio, voiceband}
 use Rattle.mode.specs.Moved.{openedModes, timed, moved, trying}
-use Rattle.mode.specs.Request.{asking}
-use Rattle.mode.specs.Recovery.{due, tickedModes, tickedAnswer, ticking}
+use Rattle.mode.specs.Request.{askStep}
+use Rattle.mode.specs.Recovery.{due, tickedModes, tickedAnswer, tickStep}
 use Rattle.mode.specs.Acts.{ask, tick, Outcome, outcome, after}
 use Rattle.mode.proofs.Recovering.{recovery-begins, not-yet}
 use Rattle.places.specs.Places.{setOf, bitOf}
@@ -44,25 +44,25 @@ use Rattle.line.specs.Fit.{lineFits}
 use Rattle.line.specs.declared.Settings.{Settings}
 use Rattle.book.specs.Resting.{allSpan}
 use Rattle.book.specs.Book.{freshBook, openIn, linesFit, bookFits}
-use Rattle.book.specs.Rest.{closedAt}
+use Rattle.book.specs.Closing.{closedAt}
 use Rattle.book.specs.declared.Book.{Book}
 use Rattle.calls.specs.Call as call
 use Rattle.calls.specs.Order.{openTests, closeTests, tests, lineFor}
-use Rattle.calls.specs.Did.{did, done, effect, slipOf}
+use Rattle.calls.specs.Result.{resultOf, acceptedResult, effect, slipOf}
 
 -- 1. Identifier 5, type 98, channel 1, number 0, base 0, payload 41
 abbrev packet-one : List ℕ
 packet-one = 0x05 ∷ 0x62 ∷ 0x40 ∷ 0x00 ∷ 0x00 ∷ 0x00 ∷ 0x41 ∷ []
 
-pub row-1-written : packetOctets (record { identifier = 5; kind = 98; channel = 1; number = 0; base = 0 }) (record { count = 0; first = 0; second = 0; third = 0 }) (0x41 ∷ []) ≡ packet-one
+pub row-1-written : packetOctets (record { identifier = 5; kind = 98; channel = 1; number = 0; base = 0 }) (record { count = 0; one = 0; two = 0; three = 0 }) (0x41 ∷ []) ≡ packet-one
 unfolding packetOctets
 row-1-written = refl
 
-pub row-1-head : headAnswer (headRead packet-one) ≡ accepted (5 ∷ 98 ∷ 1 ∷ 0 ∷ 0 ∷ [])
+pub row-1-head : headSays (headRead packet-one) ≡ accepted (5 ∷ 98 ∷ 1 ∷ 0 ∷ 0 ∷ [])
 unfolding headAt numberAt baseAt bitsAt
 row-1-head = refl
 
-pub row-1-acks : acksAnswer (acksRead packet-one) ≡ accepted (0 ∷ 0 ∷ 0 ∷ 0 ∷ [])
+pub row-1-acks : acksSays (acksRead packet-one) ≡ accepted (0 ∷ 0 ∷ 0 ∷ 0 ∷ [])
 unfolding acksAt ackAt acksServed bitsAt
 row-1-acks = refl
 
@@ -74,15 +74,15 @@ row-1-payload = refl
 abbrev packet-two : List ℕ
 packet-two = 0x05 ∷ 0x62 ∷ 0x80 ∷ 0x03 ∷ 0x80 ∷ 0x07 ∷ 0x7f ∷ 0xff ∷ 0x80 ∷ 0x00 ∷ 0x01 ∷ 0x02 ∷ []
 
-pub row-2-written : packetOctets (record { identifier = 5; kind = 98; channel = 2; number = 3; base = 7 }) (record { count = 2; first = 1 * 16384 + 16383; second = 2 * 16384 + 0; third = 0 }) (0x01 ∷ 0x02 ∷ []) ≡ packet-two
+pub row-2-written : packetOctets (record { identifier = 5; kind = 98; channel = 2; number = 3; base = 7 }) (record { count = 2; one = 1 * 16384 + 16383; two = 2 * 16384 + 0; three = 0 }) (0x01 ∷ 0x02 ∷ []) ≡ packet-two
 unfolding packetOctets
 row-2-written = refl
 
-pub row-2-head : headAnswer (headRead packet-two) ≡ accepted (5 ∷ 98 ∷ 2 ∷ 3 ∷ 7 ∷ [])
+pub row-2-head : headSays (headRead packet-two) ≡ accepted (5 ∷ 98 ∷ 2 ∷ 3 ∷ 7 ∷ [])
 unfolding headAt numberAt baseAt bitsAt
 row-2-head = refl
 
-pub row-2-acks : acksAnswer (acksRead packet-two) ≡ accepted (2 ∷ (1 * 16384 + 16383) ∷ (2 * 16384 + 0) ∷ 0 ∷ [])
+pub row-2-acks : acksSays (acksRead packet-two) ≡ accepted (2 ∷ (1 * 16384 + 16383) ∷ (2 * 16384 + 0) ∷ 0 ∷ [])
 unfolding acksAt ackAt acksServed bitsAt
 row-2-acks = refl
 
@@ -135,7 +135,7 @@ row-4-read = refl
 abbrev slip-five : List ℕ
 slip-five = 0x10 ∷ 0xb8 ∷ 0x80 ∷ 0x00 ∷ 0x4b ∷ 0x00 ∷ 0x00 ∷ 0x00 ∷ 0x80 ∷ 0x00 ∷ 0x00 ∷ 0x00 ∷ []
 
-pub row-5-written : slipOctets (record { identifier = 5; kind = 98; first = 300; second = 2; reason = 0 }) ≡ slip-five
+pub row-5-written : slipOctets (record { identifier = 5; kind = 98; count1 = 300; count2 = 2; reason = 0 }) ≡ slip-five
 unfolding slipOctets
 row-5-written = refl
 
@@ -144,9 +144,9 @@ unfolding slipAt slipFits formFits bitsAt
 row-5-read = refl
 
 -- 6. Channel 1, R = 16,380: number 27 is stored (d = 31), its place being empty; 28 is old. Whatever else the side holds
-module _ (first mask : ℕ) (sizes : List ℕ) where
+module _ (origin mask : ℕ) (sizes : List ℕ) where
   abbrev at16380 : Receiving
-  at16380 = record { next = 16380; stored = setOf mask; first = first; sizes = sizes }
+  at16380 = record { next = 16380; stored = setOf mask; origin = origin; sizes = sizes }
 
   pub row-6-stored : bitOf mask 31 ≡ false → arrivalOf (windowOf 1) at16380 27 ≡ Stored 31
   unfolding arrivalOf
@@ -157,9 +157,9 @@ module _ (first mask : ℕ) (sizes : List ℕ) where
   row-6-old = refl
 
 -- 7. h = 0, S = 32: FULL; after base 1 is heard one is taken. Whatever else the side holds
-module _ (first mask : ℕ) (sizes : List ℕ) where
+module _ (origin mask : ℕ) (sizes : List ℕ) where
   abbrev taken32 : Sending
-  taken32 = record { taken = 32; base = 0; unacked = setOf mask; first = first; sizes = sizes }
+  taken32 = record { taken = 32; base = 0; unacked = setOf mask; origin = origin; sizes = sizes }
 
   pub row-7-full : verdict (takeTests (windowOf 1) taken32) ≡ Refuse FULL
   row-7-full = refl
@@ -178,16 +178,16 @@ abbrev differs : Modes
 differs = after (openedModes true true 0) (ask voiceband 5)
 
 pub row-8-no-recovery : outcome differs (tick 1005) .said ≡ accepted (0 ∷ [])
-unfolding asking moved timed ticking tickedAnswer due
+unfolding askStep moved timed tickStep tickedAnswer due
 row-8-no-recovery = refl
 
 pub row-8-try-one : outcome differs (tick 1006) .said ≡ accepted (1 ∷ [])
-unfolding asking moved timed ticking tickedAnswer due
+unfolding askStep moved timed tickStep tickedAnswer due
 row-8-try-one = refl
 
 -- then S is a and the remote mode i
 pub row-8-recovers : (after differs (tick 1006) .local ≡ audio) × (after differs (tick 1006) .remote ≡ unknown)
-unfolding asking moved timed trying ticking tickedModes due
+unfolding askStep moved timed trying tickStep tickedModes due
 row-8-recovers = (refl, refl)
 
 -- and of every line outside recovery whose modes differ, at every time
@@ -204,15 +204,15 @@ named identifier = record { identifier = identifier; kind = 98; vbd = true; rela
 
 unfoldable pub closedOnes : Book → List ℕ → Book
 closedOnes b [] = b
-closedOnes b (x ∷ xs) = closedOnes (did (call.closing 0) (did (call.opening 0 (named x) 0) b [] [] .book) [] (replicate 12 0) .book) xs
+closedOnes b (x ∷ xs) = closedOnes (resultOf (call.closing 0) (resultOf (call.opening 0 (named x) 0) b [] [] .book) [] (replicate 12 0) .book) xs
 
 abbrev others : List ℕ
 others = 10 ∷ 11 ∷ 12 ∷ 13 ∷ 14 ∷ 15 ∷ 16 ∷ 17 ∷ 18 ∷ 19 ∷ 20 ∷ 21 ∷ 22 ∷ 23 ∷ 24 ∷ []
 
-pub row-9-taken : did (call.opening 0 (named 9) 0) (closedOnes freshBook (9 ∷ others)) [] [] .answer ≡ refused TAKEN
-unfolding closedOnes did done effect tests lineFor openTests closeTests bookFits linesFit allSpan openIn lineFits closedAt member noTwice allSpans owedFits modesFit sendingFits receivingFits sizes.sizesFit every slipOf slipOctets
+pub row-9-taken : resultOf (call.opening 0 (named 9) 0) (closedOnes freshBook (9 ∷ others)) [] [] .answer ≡ refused TAKEN
+unfolding closedOnes resultOf acceptedResult effect tests lineFor openTests closeTests bookFits linesFit allSpan openIn lineFits closedAt member noTwice allSpans owedFits modesFit sendingFits receivingFits sizes.sizesFit every slipOf slipOctets
 row-9-taken = refl
 
-pub row-9-free : did (call.opening 0 (named 9) 0) (closedOnes freshBook (9 ∷ 25 ∷ others)) [] [] .answer ≡ accepted []
-unfolding closedOnes did done effect tests lineFor openTests closeTests bookFits linesFit allSpan openIn lineFits closedAt member noTwice allSpans owedFits modesFit sendingFits receivingFits sizes.sizesFit every slipOf slipOctets
+pub row-9-free : resultOf (call.opening 0 (named 9) 0) (closedOnes freshBook (9 ∷ 25 ∷ others)) [] [] .answer ≡ accepted []
+unfolding closedOnes resultOf acceptedResult effect tests lineFor openTests closeTests bookFits linesFit allSpan openIn lineFits closedAt member noTwice allSpans owedFits modesFit sendingFits receivingFits sizes.sizesFit every slipOf slipOctets
 row-9-free = refl

@@ -11,8 +11,8 @@ use borrow.Author.Tests.{lt-ltb, le-leb, eq-eqb, leb-true}
 use Rattle.ground.specs.Refusal.{Test, verdict, settle}
 use Rattle.ground.specs.Answer.{Writes, contents}
 use Rattle.ground.specs.declared.Verdict.{Verdict}
-use Rattle.ground.specs.declared.Written.{Written}
-use Rattle.ground.specs.declared.Written.the-variants.{Wrote, Refused}
+use Rattle.ground.specs.declared.WriteAnswer.{WriteAnswer}
+use Rattle.ground.specs.declared.WriteAnswer.the-variants.{Wrote, Refused}
 use Rattle.ground.specs.declared.Verdict.the-variants.{Pass}
 use Rattle.ground.proofs.Picks.{each, together, both-true, pick-by, pick-lt}
 use Rattle.ground.proofs.Verdicts.{Holds, passed, passes}
@@ -26,7 +26,7 @@ use Rattle.owed.proofs.Steps.{owed-ok}
 use Rattle.line.specs.Fit.{largest, lineFits}
 use Rattle.line.specs.declared.Line.{Line}
 use Rattle.line.proofs.Keeps.{LineOk, line-ok}
-use Rattle.writing.specs.Write.{acksFor, baseFor, headFor, headerFor, emptyPacket, emptyTests}
+use Rattle.writing.specs.Write.{acksFor, baseFor, headFor, headerLengthFor, emptyPacket, emptyTests}
 
 spans-at : (ws : List ℕ) (k : ℕ) → allSpans ws ≡ true → k < length ws → served (getD ws k 0) ≡ true
 unfolding allSpans
@@ -70,29 +70,29 @@ module _ (l : Line) where
   base-lt channel = pick-by (λ (n : ℕ). n < 16384) (eqb channel 0) (λ _. omega arith) (λ _. omega arith)
 
   -- with a number of 14 bits that has its place, a payload of a size that fits, and room
-  pub packet-passes : LineOk l → (channel number room : ℕ) (payload : List ℕ) → channel ≤ 2 → number < 16384
+  pub packet-passes : LineOk l → (channel number space : ℕ) (payload : List ℕ) → channel ≤ 2 → number < 16384
       → numbersPlaced (headFor l channel number) (length payload) ≡ true → sizeFits channel (length payload) largest ≡ true
-      → length (packetOctets (headFor l channel number) (acksFor l) payload) ≤ room
-      → verdict (writeTests (headFor l channel number) (acksFor l) payload largest room) ≡ Pass
+      → length (packetOctets (headFor l channel number) (acksFor l) payload) ≤ space
+      → verdict (writeTests (headFor l channel number) (acksFor l) payload largest space) ≡ Pass
   unfolding fieldsFit
-  packet-passes k channel number room payload c n p z r =
+  packet-passes k channel number space payload c n p z r =
       let s = each (leb (l .identifier) 127 ∷ leb 96 (l .kind) ∷ leb (l .kind) 127 ∷ []) (k .settings) in
       let i : l .identifier ≤ 127 = leb-true _ _ (s .0) in
       let t : l .kind ≤ 127 = leb-true _ _ (s .1 .1 .0) in
       let f = together (ltb (l .identifier) 128 ∷ ltb (l .kind) 128 ∷ ltb number 16384 ∷ ltb (baseFor l channel) 16384 ∷ leb (acksFor l .count) 3 ∷ acksBlank (acksFor l) ∷ numbersPlaced (headFor l channel number) (length payload) ∷ [])
       (lt-ltb (l .identifier) 128 (omega arith), (lt-ltb (l .kind) 128 (omega arith), (lt-ltb _ _ n, (lt-ltb _ _ (base-lt channel), (le-leb _ _ acks-few, (acks-blank, (p, tt))))))) in
       let g = together (ltb channel 3 ∷ acksServed (acksFor l) ∷ []) (lt-ltb channel 3 (omega arith), (acks-served (k .owed), tt)) in
-      passes (writeTests (headFor l channel number) (acksFor l) payload largest room) (f, (g, (z, (le-leb _ _ r, tt))))
+      passes (writeTests (headFor l channel number) (acksFor l) payload largest space) (f, (g, (z, (le-leb _ _ r, tt))))
 
 -- an empty packet is its header
-pub empty-length : (l : Line) (channel : ℕ) → length (emptyPacket l channel) ≡ headerFor l
+pub empty-length : (l : Line) (channel : ℕ) → length (emptyPacket l channel) ≡ headerLengthFor l
 unfolding emptyPacket
 empty-length l channel = packet-length (headFor l channel 0) (acksFor l) (acks-few l) [] ∙ omega arith
 
 -- all tests before an empty packet is written pass: then it is written
-module _ (l : Line) (fits : lineFits l ≡ true) (channel room : ℕ) (pass : verdict (emptyTests l channel room) ≡ Pass) where
-  tests : Holds (emptyTests l channel room)
-  tests = passed (emptyTests l channel room) pass
+module _ (l : Line) (fits : lineFits l ≡ true) (channel space : ℕ) (pass : verdict (emptyTests l channel space) ≡ Pass) where
+  tests : Holds (emptyTests l channel space)
+  tests = passed (emptyTests l channel space) pass
 
   ok : LineOk l
   unfolding emptyTests
@@ -109,13 +109,13 @@ module _ (l : Line) (fits : lineFits l ≡ true) (channel room : ℕ) (pass : ve
   unfolding sizeFits
   fitting = pick-by (λ (t : Bool). t ≡ true) (eqb channel 0) (λ e. refl) (λ e. refl)
 
-  pub empty-passes : verdict (writeTests (headFor l channel 0) (acksFor l) [] largest room) ≡ Pass
+  pub empty-passes : verdict (writeTests (headFor l channel 0) (acksFor l) [] largest space) ≡ Pass
   unfolding emptyTests emptyPacket
-  empty-passes = packet-passes l ok channel 0 room [] (leb-true _ _ (tests .1 .1 .0)) (omega arith) placed fitting (rw (empty-length l channel) (leb-true _ _ (tests .1 .1 .1 .0)))
+  empty-passes = packet-passes l ok channel 0 space [] (leb-true _ _ (tests .1 .1 .0)) (omega arith) placed fitting (rw (empty-length l channel) (leb-true _ _ (tests .1 .1 .1 .0)))
 
 -- what the packet's writer promises, where its tests pass
-pub written-out : {ts : List Test} {octets before after : List ℕ} {r : Written} → Writes ts octets before after r → verdict ts ≡ Pass
+pub written-out : {ts : List Test} {octets before after : List ℕ} {r : WriteAnswer} → Writes ts octets before after r → verdict ts ≡ Pass
     → (r ≡ Wrote (length octets)) × (after ≡ octets ++ drop (length octets) before)
 written-out {octets = octets} {before = before} w e =
     let p = w .gives .is ∙ ap (λ (v : Verdict). settle v Refused (Wrote (length octets))) e in
-    (p, w .leaves ∙ ap (λ (v : Written). contents v octets before) p)
+    (p, w .leaves ∙ ap (λ (v : WriteAnswer). contents v octets before) p)

@@ -37,16 +37,16 @@ use Rattle.line.specs.Fit.{largest, lineFits}
 use Rattle.line.specs.Line.{sendingOf}
 use Rattle.line.specs.declared.Line.{Line}
 use Rattle.line.proofs.Keeps.{LineOk, sending-side}
-use Rattle.store.specs.Store.{regionOf, roomAt, RoomIn, octetsIn}
+use Rattle.store.specs.Store.{regionOf, slotAt, SlotIn, octetsIn}
 use Rattle.store.specs.declared.Region.{Region}
 use Rattle.store.specs.declared.Way.the-variants as way
-use Rattle.store.proofs.Rooms.{room-end}
-use Rattle.relay.specs.Asked.{reliable, relayTests}
-use Rattle.relay.proofs.Lines.{ok, inside, sending-steps, channel-span, region-size, room-there}
+use Rattle.store.proofs.Slots.{slot-end}
+use Rattle.relay.specs.RelayTests.{reliable, relayChannelTests}
+use Rattle.relay.proofs.Lines.{ok, inside, sending-steps, channel-span, region-size, slot-there}
 use Rattle.writing.specs.Write.{acksFor, headFor}
-use Rattle.writing.specs.Send.{ranked, isHeld, heldIn, sentLength, sendTests, maySend, Sendable}
-use Rattle.writing.specs.declared.MaySend.{MaySend}
-use Rattle.writing.specs.declared.MaySend.the-variants.{Message, Refused}
+use Rattle.writing.specs.Send.{ranked, isHeld, heldIn, sentLength, sendTests, sendVerdict, Sendable}
+use Rattle.writing.specs.declared.SendVerdict.{SendVerdict}
+use Rattle.writing.specs.declared.SendVerdict.the-variants.{Message, Refused}
 use Rattle.writing.proofs.Packets.{acks-few, packet-passes}
 
 -- an answer by a verdict, read back
@@ -55,41 +55,41 @@ says-passed Pass k e = (refl, cc)
 says-passed (Refuse r) k e = absurd (let z : _≡_ {A = ℕ} 0 1 = cc in omega arith)
 
 -- Each answer to the call.
-module _ (l : Line) (channel rank room : ℕ) where
+module _ (l : Line) (channel rank slot : ℕ) where
   -- the tests of the message itself
   abbrev tested : Ranked → List Test
-  tested k = must (isHeld k) NOTHING ∷ must (leb (sentLength l (heldIn k)) room) ROOM ∷ []
+  tested k = must (isHeld k) NOTHING ∷ must (leb (sentLength l (heldIn k)) slot) ROOM ∷ []
 
-  abbrev says : Verdict → Ranked → MaySend
+  abbrev says : Verdict → Ranked → SendVerdict
   says v k = settle v Refused (Message (heldIn k))
 
   -- line or channel refuse
-  pub send-refused : {r : Refusal} → verdict (relayTests l channel) ≡ Refuse r → maySend l channel rank room ≡ Refused r
-  unfolding maySend sendTests
-  send-refused e = ap (λ (v : Verdict). says v (ranked l channel rank)) (verdict-stop (relayTests l channel) (tested (ranked l channel rank)) e)
+  pub send-refused : {r : Refusal} → verdict (relayChannelTests l channel) ≡ Refuse r → sendVerdict l channel rank slot ≡ Refused r
+  unfolding sendVerdict sendTests
+  send-refused e = ap (λ (v : Verdict). says v (ranked l channel rank)) (verdict-stop (relayChannelTests l channel) (tested (ranked l channel rank)) e)
 
-  module _ (asked : verdict (relayTests l channel) ≡ Pass) where
-    then : maySend l channel rank room ≡ says (verdict (tested (ranked l channel rank))) (ranked l channel rank)
-    unfolding maySend sendTests
-    then = ap (λ (v : Verdict). says v (ranked l channel rank)) (verdict-on (relayTests l channel) (tested (ranked l channel rank)) asked)
+  module _ (asked : verdict (relayChannelTests l channel) ≡ Pass) where
+    then : sendVerdict l channel rank slot ≡ says (verdict (tested (ranked l channel rank))) (ranked l channel rank)
+    unfolding sendVerdict sendTests
+    then = ap (λ (v : Verdict). says v (ranked l channel rank)) (verdict-on (relayChannelTests l channel) (tested (ranked l channel rank)) asked)
 
     -- there is no message of that rank
-    pub send-nothing : ranked l channel rank ≡ Nothing → maySend l channel rank room ≡ Refused NOTHING
+    pub send-nothing : ranked l channel rank ≡ Nothing → sendVerdict l channel rank slot ≡ Refused NOTHING
     send-nothing e = then ∙ ap (λ (k : Ranked). says (verdict (tested k)) k) e
 
     module _ {h : Held} (found : ranked l channel rank ≡ Is h) where
       -- there is one, and its packet has no room
-      pub send-room : room < sentLength l h → maySend l channel rank room ≡ Refused ROOM
-      send-room q = then ∙ ap (λ (k : Ranked). says (verdict (tested k)) k) found ∙ rw (lt-leb (sentLength l h) room q)
+      pub send-room : slot < sentLength l h → sendVerdict l channel rank slot ≡ Refused ROOM
+      send-room q = then ∙ ap (λ (k : Ranked). says (verdict (tested k)) k) found ∙ rw (lt-leb (sentLength l h) slot q)
 
       -- or has it
-      pub send-may : sentLength l h ≤ room → maySend l channel rank room ≡ Message h
-      send-may q = then ∙ ap (λ (k : Ranked). says (verdict (tested k)) k) found ∙ rw (le-leb (sentLength l h) room q)
+      pub send-may : sentLength l h ≤ slot → sendVerdict l channel rank slot ≡ Message h
+      send-may q = then ∙ ap (λ (k : Ranked). says (verdict (tested k)) k) found ∙ rw (le-leb (sentLength l h) slot q)
 
   -- and what an answer says of the tests
-  pub may-passed : {h : Held} → maySend l channel rank room ≡ Message h → (verdict (sendTests l channel rank room) ≡ Pass) × (h ≡ heldIn (ranked l channel rank))
-  unfolding maySend
-  may-passed = says-passed (verdict (sendTests l channel rank room)) (heldIn (ranked l channel rank))
+  pub may-passed : {h : Held} → sendVerdict l channel rank slot ≡ Message h → (verdict (sendTests l channel rank slot) ≡ Pass) × (h ≡ heldIn (ranked l channel rank))
+  unfolding sendVerdict
+  may-passed = says-passed (verdict (sendTests l channel rank slot)) (heldIn (ranked l channel rank))
 
 -- a message found by its rank lies at a place of the window and has a size that BOOK lets pass
 held-there : (w : ℕ) (s : Sending) (rank : ℕ) → SendingOk w s → sendingFits w largest s ≡ true → isHeld (heldOf w s rank) ≡ true
@@ -101,29 +101,29 @@ held-there w s rank k f = go (rankOf (maskOf (s .unacked)) rank) refl
         → (heldIn (heldAt w s p) .place < w) × (sizeFits largest (heldIn (heldAt w s p) .size) ≡ true)
     go (At i) e t =
         let i-under : i < underWay s = rank-below (maskOf (s .unacked)) rank i (underWay s) (k .masked) e in
-        (place-lt w (s .first) i (k .placed) (omega (arith, k)), sending-sized w largest s f i (omega (arith, k)) (rank-holds (maskOf (s .unacked)) rank i e .1))
+        (place-lt w (s .origin) i (k .placed) (omega (arith, k)), sending-sized w largest s f i (omega (arith, k)) (rank-holds (maskOf (s .unacked)) rank i e .1))
     go Missing e t = clash t
 
 -- so a message that may be written can be
-pub may-sendable : (l : Line) (channel rank room : ℕ) {h : Held} → lineFits l ≡ true → maySend l channel rank room ≡ Message h → Sendable l channel room h
+pub may-sendable : (l : Line) (channel rank slot : ℕ) {h : Held} → lineFits l ≡ true → sendVerdict l channel rank slot ≡ Message h → Sendable l channel slot h
 unfolding sendTests
-may-sendable l channel rank room fits e =
-    let p = may-passed l channel rank room e in
+may-sendable l channel rank slot fits e =
+    let p = may-passed l channel rank slot e in
     let k = ranked l channel rank in
-    let a = pass-both (relayTests l channel) (tested l channel rank room k) (p .0) in
-    let t = passed (tested l channel rank room k) (a .1) in
+    let a = pass-both (relayChannelTests l channel) (tested l channel rank slot k) (p .0) in
+    let t = passed (tested l channel rank slot k) (a .1) in
     let s = sending-side l (ok l fits channel (a .0)) (inside l fits channel (a .0)) channel in
     let u = held-there (windowOf channel) (sendingOf l channel) rank (sending-steps l fits channel (a .0)) s (t .0) in
     rw (p .1) (record { asked = a .0; placed = u .0; sized = u .1; roomy = leb-true _ _ (t .1 .0) })
 
 -- What writing it needs.
-module _ (l : Line) (fits : lineFits l ≡ true) (channel room : ℕ) (h : Held) (k : Sendable l channel room h) where
+module _ (l : Line) (fits : lineFits l ≡ true) (channel slot : ℕ) (h : Held) (k : Sendable l channel slot h) where
   okay : LineOk l
   okay = ok l fits channel (k .asked)
 
   pub send-reliable : reliable channel ≡ true
-  unfolding relayTests
-  send-reliable = passed (relayTests l channel) (k .asked) .1 .1 .0
+  unfolding relayChannelTests
+  send-reliable = passed (relayChannelTests l channel) (k .asked) .1 .1 .0
 
   served : (1 ≤ channel) × (channel ≤ 2)
   served = channel-span channel send-reliable
@@ -140,12 +140,12 @@ module _ (l : Line) (fits : lineFits l ≡ true) (channel room : ℕ) (h : Held)
     abbrev region : Region
     region = regionOf i way.Sending channel
 
-    -- its place has a room, and its octets lie in the store
-    pub send-in : RoomIn region (h .place) 42240
-    send-in = room-there i way.Sending channel (h .place) 42240 small send-reliable (k .placed) (omega arith)
+    -- its place has a slot, and its octets lie in the store
+    pub send-in : SlotIn region (h .place) 42240
+    send-in = slot-there i way.Sending channel (h .place) 42240 small send-reliable (k .placed) (omega arith)
 
-    pub send-end : roomAt region (h .place) + h .size ≤ 42240
-    send-end = omega (arith, room-end region (h .place) (send-in .placed), send-in .inside, region-size i way.Sending channel, send-size .1)
+    pub send-end : slotAt region (h .place) + h .size ≤ 42240
+    send-end = omega (arith, slot-end region (h .place) (send-in .placed), send-in .inside, region-size i way.Sending channel, send-size .1)
 
     module _ (store : List ℕ) (long : 42240 ≤ length store) where
       abbrev octets : List ℕ
@@ -153,7 +153,7 @@ module _ (l : Line) (fits : lineFits l ≡ true) (channel room : ℕ) (h : Held)
 
       octets-length : length octets ≡ h .size
       octets-length =
-          let at = roomAt region (h .place) in
+          let at = slotAt region (h .place) in
           length-take-le (h .size) (drop at store) (omega (arith, length-drop at store, send-end))
 
       placed : numbersPlaced (headFor l channel (h .number % modulus)) (length octets) ≡ true
@@ -165,7 +165,7 @@ module _ (l : Line) (fits : lineFits l ≡ true) (channel room : ℕ) (h : Held)
       fitting = rw (ne-eqb channel 0 (λ e. omega (arith, served))) (le-leb (length octets) largest (omega (arith, octets-length, send-size .1)))
 
       -- and its packet may be written
-      pub send-passes : verdict (writeTests (headFor l channel (h .number % modulus)) (acksFor l) octets largest room) ≡ Pass
+      pub send-passes : verdict (writeTests (headFor l channel (h .number % modulus)) (acksFor l) octets largest slot) ≡ Pass
       send-passes =
-          packet-passes l okay channel (h .number % modulus) room octets (served .1) (omega arith) placed fitting
+          packet-passes l okay channel (h .number % modulus) slot octets (served .1) (omega arith) placed fitting
           (rw (packet-length (headFor l channel (h .number % modulus)) (acksFor l) (acks-few l) octets, octets-length) (k .roomy))

@@ -20,10 +20,10 @@ use Rattle.line.specs.Line.{sendingOf}
 use Rattle.line.specs.declared.Line.{Line}
 use Rattle.store.specs.Store.{regionOf, octetsIn}
 use Rattle.store.specs.declared.Way.the-variants.{Sending}
-use Rattle.relay.specs.Asked.{relayTests}
-use Rattle.writing.specs.Write.{acksFor, headFor, headerFor}
-use Rattle.writing.specs.declared.MaySend.{MaySend}
-use Rattle.writing.specs.declared.MaySend.the-variants.{Message, Refused}
+use Rattle.relay.specs.RelayTests.{relayChannelTests}
+use Rattle.writing.specs.Write.{acksFor, headFor, headerLengthFor}
+use Rattle.writing.specs.declared.SendVerdict.{SendVerdict}
+use Rattle.writing.specs.declared.SendVerdict.the-variants.{Message, Refused}
 
 -- "A held message is written by its rank among the unacknowledged ones of its channel"
 abbrev pub ranked : Line → ℕ → ℕ → Ranked
@@ -41,19 +41,19 @@ heldIn Nothing = record { number = 0; place = 0; size = 0 }
 
 -- how many octets a message's packet has
 abbrev pub sentLength : Line → Held → ℕ
-sentLength l h = headerFor l + h .size
+sentLength l h = headerLengthFor l + h .size
 
--- "Held message written ..: NOLINE, MODE, CHANNEL, .. NOTHING, ROOM"; room is the output's length
+-- "Held message written ..: NOLINE, MODE, CHANNEL, .. NOTHING, ROOM"; space is the output's length
 unfoldable pub sendTests : Line → ℕ → ℕ → ℕ → List Test
-sendTests l channel rank room =
-    relayTests l channel
+sendTests l channel rank space =
+    relayChannelTests l channel
     ++ (must (isHeld (ranked l channel rank)) NOTHING
-    ∷ must (leb (sentLength l (heldIn (ranked l channel rank))) room) ROOM
+    ∷ must (leb (sentLength l (heldIn (ranked l channel rank))) space) ROOM
     ∷ [])
 
 -- the message that may be written, or why none may
-unfoldable pub maySend : Line → ℕ → ℕ → ℕ → MaySend
-maySend l channel rank room = settle (verdict (sendTests l channel rank room)) Refused (Message (heldIn (ranked l channel rank)))
+unfoldable pub sendVerdict : Line → ℕ → ℕ → ℕ → SendVerdict
+sendVerdict l channel rank space = settle (verdict (sendTests l channel rank space)) Refused (Message (heldIn (ranked l channel rank)))
 
 -- its packet: "Each channel numbers the messages taken for sending from 0, modulo 16,384"; its octets lie in the store
 unfoldable pub heldPacket : Line → ℕ → ℕ → Held → List ℕ → List ℕ
@@ -61,8 +61,8 @@ heldPacket l i channel h store =
     packetOctets (headFor l channel (h .number % modulus)) (acksFor l) (octetsIn store (regionOf i Sending channel) (h .place) (h .size))
 
 -- what writing a message asks: that its line and channel were asked, that it has a place and a size, and that its packet has room
-pub record Sendable (l : Line) (channel room : ℕ) (h : Held) : Type 0 where
-  pub asked : verdict (relayTests l channel) ≡ Pass
+pub record Sendable (l : Line) (channel space : ℕ) (h : Held) : Type 0 where
+  pub asked : verdict (relayChannelTests l channel) ≡ Pass
   pub placed : h .place < windowOf channel
   pub sized : sizeFits largest (h .size) ≡ true
-  pub roomy : sentLength l h ≤ room
+  pub roomy : sentLength l h ≤ space

@@ -13,11 +13,11 @@ use Rattle.packet.specs.declared.Acks.{Acks}
 use Rattle.owed.specs.Owed.{firstThree, withoutThree}
 use Rattle.line.specs.Line.{receivingOf, withOwed}
 use Rattle.line.specs.declared.Line.{Line}
-use Rattle.relay.specs.Asked.{insideTests}
+use Rattle.relay.specs.RelayTests.{relayLineTests}
 
 -- "every packet written carries the first three, or all if fewer"
 unfoldable pub acksFor : Line → Acks
-acksFor l = let t = firstThree (l .owed) in record { count = t .count; first = t .one; second = t .two; third = t .three }
+acksFor l = firstThree (l .owed)
 
 -- "and they leave the list"
 unfoldable pub wroteLine : Line → Line
@@ -31,8 +31,8 @@ abbrev pub headFor : Line → ℕ → ℕ → Head
 headFor l channel number = record { identifier = l .identifier; kind = l .kind; channel = channel; number = number; base = baseFor l channel }
 
 -- "a header is 6, 8, 10 or 12 octets"
-abbrev pub headerFor : Line → ℕ
-headerFor l = 6 + 2 * acksFor l .count
+abbrev pub headerLengthFor : Line → ℕ
+headerLengthFor l = 6 + 2 * acksFor l .count
 
 -- a packet without payload: its number is 0
 unfoldable pub emptyPacket : Line → ℕ → List ℕ
@@ -40,5 +40,5 @@ emptyPacket l channel = packetOctets (headFor l channel 0) (acksFor l) []
 
 -- "Empty packet: NOLINE, MODE, CHANNEL, ROOM"; "empty-packet call not naming 0 to 2"
 unfoldable pub emptyTests : Line → ℕ → ℕ → List Test
-emptyTests l channel room =
-    insideTests l ++ (must (leb channel 2) CHANNEL ∷ must (leb (headerFor l) room) ROOM ∷ [])
+emptyTests l channel space =
+    relayLineTests l ++ (must (leb channel 2) CHANNEL ∷ must (leb (headerLengthFor l) space) ROOM ∷ [])

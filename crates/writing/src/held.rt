@@ -6,12 +6,12 @@ ghost use mathlib.Core.Bool.{true};
 ghost use Prim.Native.Nat.{_≤_, _<_};
 ghost use mathlib.Core.List.{_++_};
 ghost use lib.ListN.{length, drop};
-ghost use Rattle.ground.specs.declared.Written.{Written};
+ghost use Rattle.ground.specs.declared.WriteAnswer.{WriteAnswer};
 ghost use Rattle.line.specs.Fit.{lineFits};
 ghost use Rattle.writing.specs.Write.{wroteLine};
-ghost use Rattle.writing.specs.Send.{maySend, heldPacket, Sendable};
-use crate::MaySend;
-use crate::Sent;
+ghost use Rattle.writing.specs.Send.{sendVerdict, heldPacket, Sendable};
+use crate::SendVerdict;
+use crate::WriteStep;
 use channel::Channel;
 use ground::Refusal;
 use ground::Verdict;
@@ -21,24 +21,24 @@ use sending::Ranked;
 use store::Region;
 use store::Way;
 
-// May the held message of a rank be written into `room` octets? NOLINE, MODE, CHANNEL, NOTHING, ROOM.
-pub fn may_send(l: Line, channel: u8, rank: u8, room: usize) -> MaySend
+// May the held message of a rank be written into `space` octets? NOLINE, MODE, CHANNEL, NOTHING, ROOM.
+pub fn may_send(l: Line, channel: u8, rank: u8, space: usize) -> SendVerdict
     requires { ⌜ lineFits l ≡ true ⌝ }
-    ensures { λ r. ⌜ r ≡ maySend l channel rank room ⌝ }
+    ensures { λ r. ⌜ r ≡ sendVerdict l channel rank space ⌝ }
 {
-    let first = relay::asked(l, channel);
-    match first {
-        Verdict::Refuse(r) => MaySend::Refused(r),
+    let earlier = relay::channel_verdict(l, channel);
+    match earlier {
+        Verdict::Refuse(r) => SendVerdict::Refused(r),
         Verdict::Pass => {
             let window = Channel::of(channel).window;
             let found = l.sending(channel).ranked(window, rank as u32);
             match found {
-                Ranked::Nothing => MaySend::Refused(Refusal::NOTHING),
+                Ranked::Nothing => SendVerdict::Refused(Refusal::NOTHING),
                 Ranked::Is(h) => {
-                    if crate::header_length(l) + (h.size as usize) <= room {
-                        MaySend::Message(h)
+                    if crate::header_length(l) + (h.size as usize) <= space {
+                        SendVerdict::Message(h)
                     } else {
-                        MaySend::Refused(Refusal::ROOM)
+                        SendVerdict::Refused(Refusal::ROOM)
                     }
                 }
             }
@@ -47,16 +47,16 @@ pub fn may_send(l: Line, channel: u8, rank: u8, room: usize) -> MaySend
 }
 
 // Writes a held message.
-pub fn send(l: Line, i: u8, store: &[u8], channel: u8, h: Held, out: &mut [u8]) -> Sent
+pub fn send(l: Line, i: u8, store: &[u8], channel: u8, h: Held, out: &mut [u8]) -> WriteStep
     requires { ⌜ (lineFits l ≡ true) × (i < 4) × (42240 ≤ length (now store)) × Sendable l channel (length (now out)) h ⌝ }
-    ensures { λ r. ⌜ (r .line ≡ wroteLine l) × (r .answer ≡ Written.Wrote (length (heldPacket l i channel h (now (store .entry))))) × (now (out .exit) ≡ heldPacket l i channel h (now (store .entry)) ++ drop (length (heldPacket l i channel h (now (store .entry)))) (now (out .entry))) ⌝ }
+    ensures { λ r. ⌜ (r .line ≡ wroteLine l) × (r .answer ≡ WriteAnswer.Wrote (length (heldPacket l i channel h (now (store .entry))))) × (now (out .exit) ≡ heldPacket l i channel h (now (store .entry)) ++ drop (length (heldPacket l i channel h (now (store .entry)))) (now (out .entry))) ⌝ }
 {
     let region = Region::of(i, Way::Sending, channel);
-    let at = region.room(h.place);
+    let at = region.slot(h.place);
     let end = at + h.size as usize;
     let head = crate::head_for(l, channel, (h.number & 0x3fff) as u16);
     let acks = crate::acks_for(l);
     let answer = packet::write_packet(out, head, acks, &store[at..end], 132);
     let line = crate::wrote_line(l);
-    Sent { line, answer }
+    WriteStep { line, answer }
 }

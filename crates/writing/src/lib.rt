@@ -8,12 +8,12 @@ ghost use mathlib.Core.List.{_++_};
 ghost use lib.ListN.{length, drop};
 ghost use Rattle.ground.specs.Refusal.{verdict};
 ghost use Rattle.ground.specs.declared.Verdict.the-variants.{Pass};
-ghost use Rattle.ground.specs.declared.Written.{Written};
+ghost use Rattle.ground.specs.declared.WriteAnswer.{WriteAnswer};
 ghost use Rattle.line.specs.Fit.{lineFits};
-ghost use Rattle.writing.specs.Write.{acksFor, wroteLine, baseFor, headFor, headerFor, emptyPacket, emptyTests};
+ghost use Rattle.writing.specs.Write.{acksFor, wroteLine, baseFor, headFor, headerLengthFor, emptyPacket, emptyTests};
 use ground::Refusal;
 use ground::Verdict;
-use ground::Written;
+use ground::WriteAnswer;
 use line::Line;
 use packet::Acks;
 use packet::Head;
@@ -25,13 +25,13 @@ pub use held::may_send;
 pub use held::send;
 
 // What a call that writes a packet leaves: the line, and how many octets were written.
-pub struct Sent {
+pub struct WriteStep {
     pub line: Line,
-    pub answer: Written,
+    pub answer: WriteAnswer,
 }
 
 // The held message that may be written, or why none may.
-pub enum MaySend {
+pub enum SendVerdict {
     Message(Held),
     Refused(Refusal),
 }
@@ -40,13 +40,7 @@ pub enum MaySend {
 pub fn acks_for(l: Line) -> Acks
     ensures { λ r. ⌜ r ≡ acksFor l ⌝ }
 {
-    let three = l.owed.first_three();
-    Acks {
-        count: three.count,
-        first: three.one,
-        second: three.two,
-        third: three.three,
-    }
+    l.owed.first_three()
 }
 
 // The line once they have left its list.
@@ -84,24 +78,24 @@ pub fn head_for(l: Line, channel: u8, number: u16) -> Head
 
 // The length of a header that carries what the line owes.
 pub fn header_length(l: Line) -> usize
-    ensures { λ r. ⌜ r ≡ headerFor l ⌝ }
+    ensures { λ r. ⌜ r ≡ headerLengthFor l ⌝ }
 {
     let acks = acks_for(l);
     6 + 2 * (acks.count as usize)
 }
 
-// May an empty packet be written into `room` octets? NOLINE, MODE, CHANNEL, ROOM.
-pub fn may_write_empty(l: Line, channel: u8, room: usize) -> Verdict
-    ensures { λ r. ⌜ r ≡ verdict (emptyTests l channel room) ⌝ }
+// May an empty packet be written into `space` octets? NOLINE, MODE, CHANNEL, ROOM.
+pub fn may_write_empty(l: Line, channel: u8, space: usize) -> Verdict
+    ensures { λ r. ⌜ r ≡ verdict (emptyTests l channel space) ⌝ }
 {
-    let first = relay::inside(l);
-    match first {
+    let earlier = relay::line_verdict(l);
+    match earlier {
         Verdict::Refuse(r) => Verdict::Refuse(r),
         Verdict::Pass => {
             if 2 < channel {
                 return Verdict::Refuse(Refusal::CHANNEL);
             }
-            if header_length(l) <= room {
+            if header_length(l) <= space {
                 Verdict::Pass
             } else {
                 Verdict::Refuse(Refusal::ROOM)
@@ -111,14 +105,14 @@ pub fn may_write_empty(l: Line, channel: u8, room: usize) -> Verdict
 }
 
 // Writes an empty packet.
-pub fn write_empty(l: Line, channel: u8, out: &mut [u8]) -> Sent
+pub fn write_empty(l: Line, channel: u8, out: &mut [u8]) -> WriteStep
     requires { ⌜ (lineFits l ≡ true) × (verdict (emptyTests l channel (length (now out))) ≡ Pass) ⌝ }
-    ensures { λ r. ⌜ (r .line ≡ wroteLine l) × (r .answer ≡ Written.Wrote (length (emptyPacket l channel))) × (now (out .exit) ≡ emptyPacket l channel ++ drop (length (emptyPacket l channel)) (now (out .entry))) ⌝ }
+    ensures { λ r. ⌜ (r .line ≡ wroteLine l) × (r .answer ≡ WriteAnswer.Wrote (length (emptyPacket l channel))) × (now (out .exit) ≡ emptyPacket l channel ++ drop (length (emptyPacket l channel)) (now (out .entry))) ⌝ }
 {
     let none = [0u8; 1];
     let head = head_for(l, channel, 0);
     let acks = acks_for(l);
     let answer = packet::write_packet(out, head, acks, &none[..0], 132);
     let line = wrote_line(l);
-    Sent { line, answer }
+    WriteStep { line, answer }
 }

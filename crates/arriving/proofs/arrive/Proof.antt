@@ -4,7 +4,7 @@ use Prim.Native.Nat.{_≤_, _<_, ℕ}
 use Rattle.arriving.specs.Effect.{Relaying, heardLine, ackedAll, storedLine, storedStore}
 use Rattle.arriving.specs.Arrive.{newsLine}
 use Rattle.packet.specs.declared.Head.{Head}
-use Rattle.packet.specs.Read.{headAt, acksAt, headerAt, payloadOf}
+use Rattle.packet.specs.Read.{headAt, acksAt, headerLength, payloadOf}
 use Rattle.packet.specs.Acks.{ackList}
 use denote.Ref.{now}
 use lib.ListN.{length}
@@ -77,13 +77,13 @@ acks-heard-requires c κs =
     let a = c .before .before .before .before .before .before .before .before .before .before .before .args in
     (rw (heard c) (heard-relaying (a .l) (relaying (c .before)) (headAt (now (a .s)) .channel) (headAt (now (a .s)) .base)), rw (listed (c .before)) (acks-few (now (a .s))))
 
-header-at-requires : tie.Need-header-at-requires
-header-at-requires c κs = search needs
+header-length-requires : tie.Need-header-length-requires
+header-length-requires c κs = search needs
 
 returns-3 : tie.Need-returns-3
 returns-3 c =
     let a = c .before .before .before .before .before .before .before .before .before .before .before .before .before .before .args in
-    let q : length (now (a .s)) ≤ headerAt (now (a .s)) = omega (arith, c .if1 .taken, c .before .header-at .ensures) in
+    let q : length (now (a .s)) ≤ headerLength (now (a .s)) = omega (arith, c .if1 .taken, c .before .header-length .ensures) in
     (news (c .before .before) ∙ news-all (a .l) (now (a .s)) q, store-all (a .l) (now (a .s)) q (a .i) (now (a .store)))
 
 sub-payload-stored : tie.Need-sub-payload-stored
@@ -99,8 +99,8 @@ payload-stored-requires : tie.Need-payload-stored-requires
 payload-stored-requires c κs =
     let a = c .before .before .before .before .before .before .before .before .before .before .before .before .before .before .before .before in
     let s : List ℕ = now (a .args .s) in
-    let p : 0 < length (payloadOf s) = omega (arith, c .before .before .if1 .left, c .before .before .before .header-at .ensures, payload-length s) in
-    rw (news (c .before .before .before .before), said (c .before .before .before .before .before .before .before .before .before .before), payload-rest s (c .before .before .before .header-at .result) (c .before .before .before .header-at .ensures))
+    let p : 0 < length (payloadOf s) = omega (arith, c .before .before .if1 .left, c .before .before .before .header-length .ensures, payload-length s) in
+    rw (news (c .before .before .before .before), said (c .before .before .before .before .before .before .before .before .before .before), payload-rest s (c .before .before .before .header-length .result) (c .before .before .before .header-length .ensures))
     (news-relaying (a .args .l) (relaying (c .before .before .before .before .before .before)) s, a .pre .2, a .pre .3, arrive-reliable (a .args .l) s (a .pre .4) p, number-lt s, arrive-size (a .args .l) s (a .pre .4))
 
 same-length : tie.Need-same-length
@@ -110,8 +110,8 @@ returns-4 : tie.Need-returns-4
 returns-4 c =
     let a = c .before .before .before .before .before .before .before .before .before .before .before .before .before .before .before .before .before .before .before .args in
     let s : List ℕ = now (a .s) in
-    let q : headerAt s < length s = omega (arith, c .before .before .before .before .before .if1 .left, c .before .before .before .before .before .before .header-at .ensures) in
-    let r = payload-rest s (c .before .before .before .before .before .before .header-at .result) (c .before .before .before .before .before .before .header-at .ensures) in
+    let q : headerLength s < length s = omega (arith, c .before .before .before .before .before .if1 .left, c .before .before .before .before .before .before .header-length .ensures) in
+    let r = payload-rest s (c .before .before .before .before .before .before .header-length .result) (c .before .before .before .before .before .before .header-length .ensures) in
     let h = said (c .before .before .before .before .before .before .before .before .before .before .before .before .before) in
     let m = news (c .before .before .before .before .before .before .before) in (
       c .before .before .payload-stored .ensures .0 ∙ (λ i. storedLine (m i) (h i .channel) (h i .number) (length (r i))) ∙ payload-line (a .l) s q,
@@ -132,7 +132,7 @@ arrive-spec =
     returns-2
     base-heard-requires
     acks-heard-requires
-    header-at-requires
+    header-length-requires
     returns-3
     sub-payload-stored
     part-payload-stored-start

@@ -1,6 +1,6 @@
-use Rattle.calls.proofs.Dids.{did-refused, did-done}
-use Rattle.calls.specs.Did.{made, done, effect}
-use Rattle.calls.proofs.Firsts.{line-passed}
+use Rattle.calls.proofs.Results.{did-refused, result-accepted}
+use Rattle.calls.specs.Result.{resultWith, acceptedResult, effect}
+use Rattle.calls.proofs.FirstTests.{line-passed}
 use Rattle.calls.specs.Order.{openTests, tests, lineFor}
 use Rattle.calls.specs.Call as call
 use Rattle.book.specs.declared.Book.{Book}
@@ -29,15 +29,15 @@ with-line-requires : tie.Need-with-line-requires
 with-line-requires c κs = let a = c .before .before .before .before .args in line-passed (a .book) (a .line) (openTests (a .book) (a .line) (a .settings)) (sym (c .before .before .before .may-open .ensures) ∙ c .before .enum-told .given .1) .0 .number
 
 returns : tie.Need-returns
-unfolding tests done effect lineFor
+unfolding tests acceptedResult effect lineFor
 returns c = λ store out. let a = c .before .before .before .before .args in sym (did-refused (call.opening (a .line) (a .settings) (a .time)) (a .book) store out (sym (c .before .before .before .may-open .ensures) ∙ c .before .verdict .given .1))
 
 returns-2 : tie.Need-returns-2
-unfolding tests done effect lineFor
+unfolding tests acceptedResult effect lineFor
 returns-2 c =
     λ store out. let a = c .before .before .before .before .before .args in
     let b = c .with-line .ensures ∙ ap (λ (l : Line). withLine (a .book) (a .line) l) (c .before .opened-with .ensures) in
-    ap (λ (k : Book). made (accepted []) k store out) b ∙ sym (did-done (call.opening (a .line) (a .settings) (a .time)) (a .book) store out (sym (c .before .before .before .before .may-open .ensures) ∙ c .before .before .enum-told .given .1))
+    ap (λ (k : Book). resultWith (accepted []) k store out) b ∙ sym (result-accepted (call.opening (a .line) (a .settings) (a .time)) (a .book) store out (sym (c .before .before .before .before .may-open .ensures) ∙ c .before .before .enum-told .given .1))
 
 pub open-spec : {M : Type 1} → statement M
 open-spec =

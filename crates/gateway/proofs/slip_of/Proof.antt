@@ -1,4 +1,4 @@
-use Rattle.calls.specs.Did.{slipOf}
+use Rattle.calls.specs.Result.{slipOf}
 use borrow.Author.Needs.{needs}
 use Rattle.gateway.proofs.slip_of.Statement.{statement}
 use Rattle.gateway.proofs.slip_of.Tie as tie

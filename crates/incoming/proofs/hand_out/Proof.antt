@@ -1,7 +1,7 @@
 use Rattle.incoming.proofs.Passing.{handed-length}
-use Rattle.calls.proofs.Dids.{did-refused, did-done}
-use Rattle.calls.specs.Did.{made, done, effect}
-use Rattle.calls.proofs.Firsts.{both-passed}
+use Rattle.calls.proofs.Results.{did-refused, result-accepted}
+use Rattle.calls.specs.Result.{resultWith, acceptedResult, effect}
+use Rattle.calls.proofs.FirstTests.{both-passed}
 use Rattle.calls.specs.Order.{tests, lineFor}
 use Rattle.calls.specs.Call as call
 use Rattle.book.specs.Book.{lineOf, withLine}
@@ -49,14 +49,14 @@ with-line-requires : tie.Need-with-line-requires
 with-line-requires c κs = let a = c .before .before .before .before .before .before .before .before .before .before .before .before .args in both-passed (a .book) (length (now (a .store))) (a .line) (handCallTests (lineOf (a .book) (a .line)) (a .channel) (length (now (a .out)))) (sym (c .before .before .before .before .before .before .before .before .before .may-hand-out .ensures) ∙ c .before .before .before .before .before .before .before .enum-told .given .1) .0 .number
 
 returns : tie.Need-returns
-unfolding tests done effect lineFor
+unfolding tests acceptedResult effect lineFor
 returns c = let a = c .before .before .before .before .before .before .args in sym (did-refused (call.handOut (a .line) (a .channel)) (a .book) (now (a .store)) (now (a .out)) (sym (c .before .before .before .may-hand-out .ensures) ∙ c .before .verdict .given .1))
 
 same-length : tie.Need-same-length
 same-length c = search needs
 
 returns-2 : tie.Need-returns-2
-unfolding tests done effect lineFor
+unfolding tests acceptedResult effect lineFor
 returns-2 c =
     let a = c .before .before .before .before .before .before .before .before .before .before .before .before .before .args in
     let v = sym (c .before .before .before .before .before .before .before .before .before .before .may-hand-out .ensures) ∙ c .before .before .before .before .before .before .before .before .enum-told .given .1 in
@@ -67,7 +67,7 @@ returns-2 c =
     let n = c .before .before .before .before .before .next-size .ensures ∙ ap (λ (r : Receiving). nextSize r) (c .before .before .before .before .before .before .receiving .ensures ∙ ap (λ (x : Line). receivingOf x (a .channel)) l) ∙ long in
     let b = c .with-line .ensures ∙ ap (λ (x : Line). withLine (a .book) (a .line) x) (c .before .before .before .hand-out .ensures .0 ∙ ap (λ (x : Line). handedLine x (a .channel)) l) in
     let o = c .before .before .before .hand-out .ensures .1 ∙ ap (λ (x : Line). handedOctets x (a .line) (a .channel) (now (a .store)) ++ drop (nextSize (receivingOf x (a .channel))) (now (a .out))) l ∙ ap (λ (z : ℕ). handedOctets m (a .line) (a .channel) (now (a .store)) ++ drop z (now (a .out))) long in
-    (λ t. made (accepted (n t ∷ [])) (b t) (now (a .store)) (o t)) ∙ sym (did-done (call.handOut (a .line) (a .channel)) (a .book) (now (a .store)) (now (a .out)) v)
+    (λ t. resultWith (accepted (n t ∷ [])) (b t) (now (a .store)) (o t)) ∙ sym (result-accepted (call.handOut (a .line) (a .channel)) (a .book) (now (a .store)) (now (a .out)) v)
 
 pub hand-out-spec : {M : Type 1} → statement M
 hand-out-spec =

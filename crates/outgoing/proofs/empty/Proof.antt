@@ -1,13 +1,13 @@
-use Rattle.calls.proofs.Dids.{did-refused, did-done}
-use Rattle.calls.specs.Did.{made, done, effect}
-use Rattle.calls.proofs.Firsts.{line-passed}
+use Rattle.calls.proofs.Results.{did-refused, result-accepted}
+use Rattle.calls.specs.Result.{resultWith, acceptedResult, effect}
+use Rattle.calls.proofs.FirstTests.{line-passed}
 use Rattle.calls.specs.Order.{tests, lineFor}
 use Rattle.calls.specs.Call as call
 use Rattle.book.specs.Book.{lineOf, withLine}
 use Rattle.writing.specs.Write.{emptyTests, emptyPacket, wroteLine}
 use Rattle.line.specs.declared.Line.{Line}
-use Rattle.ground.specs.declared.Written.the-variants.{Wrote}
-use Rattle.ground.specs.Answer.{writtenAnswer}
+use Rattle.ground.specs.declared.WriteAnswer.the-variants.{Wrote}
+use Rattle.ground.specs.Answer.{writeSays}
 use denote.Ref.{now}
 use lib.ListN.{length, drop}
 use mathlib.Core.List.{_++_}
@@ -35,14 +35,14 @@ with-line-requires : tie.Need-with-line-requires
 with-line-requires c κs = let a = c .before .before .before .before .before .before .before .before .before .args in line-passed (a .book) (a .line) (emptyTests (lineOf (a .book) (a .line)) (a .channel) (length (now (a .out)))) (sym (c .before .before .before .before .before .before .before .may-write-empty .ensures) ∙ c .before .before .before .before .before .enum-told .given .1) .0 .number
 
 returns : tie.Need-returns
-unfolding tests done effect lineFor
+unfolding tests acceptedResult effect lineFor
 returns c = λ store. let a = c .before .before .before .before .before .args in sym (did-refused (call.empty (a .line) (a .channel)) (a .book) store (now (a .out)) (sym (c .before .before .before .may-write-empty .ensures) ∙ c .before .verdict .given .1))
 
 same-length : tie.Need-same-length
 same-length c = search needs
 
 returns-2 : tie.Need-returns-2
-unfolding tests done effect lineFor
+unfolding tests acceptedResult effect lineFor
 returns-2 c =
     λ store. let a = c .before .before .before .before .before .before .before .before .before .before .args in
     let v = sym (c .before .before .before .before .before .before .before .before .may-write-empty .ensures) ∙ c .before .before .before .before .before .before .enum-told .given .1 in
@@ -51,7 +51,7 @@ returns-2 c =
     let n = w .1 ∙ ap (λ (k : Line). Wrote (length (emptyPacket k (a .channel)))) l in
     let b = c .with-line .ensures ∙ ap (λ (k : Line). withLine (a .book) (a .line) k) (w .0 ∙ ap (λ (k : Line). wroteLine k) l) in
     let o = w .2 ∙ ap (λ (k : Line). emptyPacket k (a .channel) ++ drop (length (emptyPacket k (a .channel))) (now (a .out))) l in
-    (λ t. made (writtenAnswer (n t)) (b t) store (o t)) ∙ sym (did-done (call.empty (a .line) (a .channel)) (a .book) store (now (a .out)) v)
+    (λ t. resultWith (writeSays (n t)) (b t) store (o t)) ∙ sym (result-accepted (call.empty (a .line) (a .channel)) (a .book) store (now (a .out)) v)
 
 pub empty-spec : {M : Type 1} → statement M
 empty-spec =

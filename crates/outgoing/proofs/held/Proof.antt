@@ -1,10 +1,10 @@
-use Rattle.calls.proofs.Dids.{did-refused, did-done, same-line}
-use Rattle.calls.specs.Did.{made, done, effect}
-use Rattle.calls.proofs.Firsts.{line-passed}
+use Rattle.calls.proofs.Results.{did-refused, result-accepted, same-line}
+use Rattle.calls.specs.Result.{resultWith, acceptedResult, effect}
+use Rattle.calls.proofs.FirstTests.{line-passed}
 use Rattle.calls.specs.Order.{tests, lineFor}
 use Rattle.calls.specs.Call as call
 use Rattle.book.specs.Book.{lineOf}
-use Rattle.relay.specs.Asked.{relayTests}
+use Rattle.relay.specs.RelayTests.{relayChannelTests}
 use Rattle.line.specs.declared.Line.{Line}
 use Rattle.line.specs.Line.{sendingOf}
 use Rattle.sending.specs.Sending.{heldCount}
@@ -25,21 +25,21 @@ enum-told : tie.Need-enum-told
 enum-told c = search needs
 
 line-requires : tie.Need-line-requires
-line-requires c κs = let a = c .before .before .before .args in line-passed (a .book) (a .line) (relayTests (lineOf (a .book) (a .line)) (a .channel)) (sym (c .before .before .may-report .ensures) ∙ c .enum-told .given .1) .0 .number
+line-requires c κs = let a = c .before .before .before .args in line-passed (a .book) (a .line) (relayChannelTests (lineOf (a .book) (a .line)) (a .channel)) (sym (c .before .before .may-report .ensures) ∙ c .enum-told .given .1) .0 .number
 
 held-requires : tie.Need-held-requires
 held-requires c κs = search needs
 
 returns : tie.Need-returns
-unfolding tests done effect lineFor
+unfolding tests acceptedResult effect lineFor
 returns c = λ store out. let a = c .before .before .before .before .args in sym (did-refused (call.report (a .line) (a .channel)) (a .book) store out (sym (c .before .before .before .may-report .ensures) ∙ c .before .verdict .given .1))
 
 returns-2 : tie.Need-returns-2
-unfolding tests done effect lineFor
+unfolding tests acceptedResult effect lineFor
 returns-2 c =
     λ store out. let a = c .before .before .before .before .before .args in
     let n = c .held .ensures ∙ ap (λ (l : Line). heldCount (sendingOf l (a .channel))) (c .before .line .ensures) in
-    (λ t. made (accepted (n t ∷ [])) (sym (same-line (a .book) (a .line)) t) store out) ∙ sym (did-done (call.report (a .line) (a .channel)) (a .book) store out (sym (c .before .before .before .before .may-report .ensures) ∙ c .before .before .enum-told .given .1))
+    (λ t. resultWith (accepted (n t ∷ [])) (sym (same-line (a .book) (a .line)) t) store out) ∙ sym (result-accepted (call.report (a .line) (a .channel)) (a .book) store out (sym (c .before .before .before .before .may-report .ensures) ∙ c .before .before .enum-told .given .1))
 
 pub held-spec : {M : Type 1} → statement M
 held-spec =

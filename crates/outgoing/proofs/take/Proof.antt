@@ -1,6 +1,6 @@
-use Rattle.calls.proofs.Dids.{did-refused, did-done}
-use Rattle.calls.specs.Did.{made, done, effect}
-use Rattle.calls.proofs.Firsts.{both-passed}
+use Rattle.calls.proofs.Results.{did-refused, result-accepted}
+use Rattle.calls.specs.Result.{resultWith, acceptedResult, effect}
+use Rattle.calls.proofs.FirstTests.{both-passed}
 use Rattle.calls.specs.Order.{tests, lineFor}
 use Rattle.calls.specs.Call as call
 use Rattle.book.specs.Book.{lineOf, withLine}
@@ -46,14 +46,14 @@ with-line-requires : tie.Need-with-line-requires
 with-line-requires c κs = let a = c .before .before .before .before .before .before .before .before .before .before .before .before .args in both-passed (a .book) (length (now (a .store))) (a .line) (takeCallTests (lineOf (a .book) (a .line)) (a .channel) (length (now (a .message)))) (sym (c .before .before .before .before .before .before .before .before .before .may-take .ensures) ∙ c .before .before .before .before .before .before .before .enum-told .given .1) .0 .number
 
 returns : tie.Need-returns
-unfolding tests done effect lineFor
+unfolding tests acceptedResult effect lineFor
 returns c = λ out. let a = c .before .before .before .before .before .before .args in sym (did-refused (call.taking (a .line) (a .channel) (now (a .message))) (a .book) (now (a .store)) out (sym (c .before .before .before .may-take .ensures) ∙ c .before .verdict .given .1))
 
 same-length : tie.Need-same-length
 same-length c = search needs
 
 returns-2 : tie.Need-returns-2
-unfolding tests done effect lineFor
+unfolding tests acceptedResult effect lineFor
 returns-2 c =
     λ out. let a = c .before .before .before .before .before .before .before .before .before .before .before .before .before .args in
     let l = c .before .before .before .before .before .before .before .line .ensures in
@@ -62,7 +62,7 @@ returns-2 c =
     let m = and-mask (c .before .before .before .before .before .before .sending .result .taken) 14 ∙ ap (λ (k : Sending). k .taken % modulus) s in
     let b = c .with-line .ensures ∙ ap (λ (k : Line). withLine (a .book) (a .line) k) (c .before .before .before .take .ensures .0 ∙ ap (λ (k : Line). tookLine k (a .channel) n) l) in
     let o = c .before .before .before .take .ensures .1 ∙ ap (λ (k : Line). tookStore k (a .line) (a .channel) (now (a .message)) (now (a .store))) l in
-    (λ t. made (accepted (m t ∷ [])) (b t) (o t) out) ∙ sym (did-done (call.taking (a .line) (a .channel) (now (a .message))) (a .book) (now (a .store)) out (sym (c .before .before .before .before .before .before .before .before .before .before .may-take .ensures) ∙ c .before .before .before .before .before .before .before .before .enum-told .given .1))
+    (λ t. resultWith (accepted (m t ∷ [])) (b t) (o t) out) ∙ sym (result-accepted (call.taking (a .line) (a .channel) (now (a .message))) (a .book) (now (a .store)) out (sym (c .before .before .before .before .before .before .before .before .before .before .may-take .ensures) ∙ c .before .before .before .before .before .before .before .before .enum-told .given .1))
 
 pub take-spec : {M : Type 1} → statement M
 take-spec =

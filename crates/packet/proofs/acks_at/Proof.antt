@@ -24,7 +24,7 @@ returns : tie.Need-returns
 unfolding acksAt
 returns c =
     let s = now (c .before .before .before .before .before .args .s) in
-    λ i. record { count = top-of s 32 2 14 (c .before .before .before .word-at .ensures) i; first = c .before .before .ack-at .ensures i; second = c .before .ack-at2 .ensures i; third = c .ack-at3 .ensures i }
+    λ i. record { count = top-of s 32 2 14 (c .before .before .before .word-at .ensures) i; one = c .before .before .ack-at .ensures i; two = c .before .ack-at2 .ensures i; three = c .ack-at3 .ensures i }
 
 pub acks-at-spec : {M : Type 1} → statement M
 acks-at-spec =

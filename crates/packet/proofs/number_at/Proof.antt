@@ -12,8 +12,8 @@ channel-at-requires c κs = search needs
 returns : tie.Need-returns
 returns c = number-none _ (omega arith)
 
-header-at-requires : tie.Need-header-at-requires
-header-at-requires c κs = search needs
+header-length-requires : tie.Need-header-length-requires
+header-length-requires c κs = search needs
 
 returns-2 : tie.Need-returns-2
 returns-2 c = number-empty _ (λ e. omega arith) (omega arith)
@@ -28,4 +28,4 @@ returns-3 c =
 pub number-at-spec : {M : Type 1} → statement M
 number-at-spec =
     tie.close
-    (tie.spec channel-at-requires returns header-at-requires returns-2 word-at-requires returns-3)
+    (tie.spec channel-at-requires returns header-length-requires returns-2 word-at-requires returns-3)

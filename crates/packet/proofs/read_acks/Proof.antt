@@ -1,8 +1,8 @@
 use mathlib.Core.Path.{refl, ap}
 use denote.Ref.{now}
 use Rattle.ground.proofs.Verdicts.{gives-it, gives-not}
-use Rattle.packet.specs.Read.{listTests, acksAt, acksAnswer}
-use Rattle.packet.specs.declared.AcksRead.the-variants.{Says, Refused}
+use Rattle.packet.specs.Read.{listTests, acksAt, acksSays}
+use Rattle.packet.specs.declared.AcksReading.the-variants.{Says, Refused}
 use borrow.Author.Needs.{needs}
 use Rattle.packet.proofs.read_acks.Statement.{statement}
 use Rattle.packet.proofs.read_acks.Tie as tie
@@ -22,12 +22,12 @@ enum-known-r c = search needs
 returns : tie.Need-returns
 returns c =
     let s = now (c .before .before .before .before .before .args .s) in
-    gives-it acksAnswer Refused (λ r. refl) (listTests s) (Says (acksAt s)) (c .before .before .before .list-verdict .ensures) (c .before .enum-told .given .1) (ap Says (c .acks-at .ensures))
+    gives-it acksSays Refused (λ r. refl) (listTests s) (Says (acksAt s)) (c .before .before .before .list-verdict .ensures) (c .before .enum-told .given .1) (ap Says (c .acks-at .ensures))
 
 returns-2 : tie.Need-returns-2
 returns-2 c =
     let s = now (c .before .before .before .before .before .args .s) in
-    gives-not acksAnswer Refused (λ r. refl) (listTests s) (Says (acksAt s)) (c .before .before .before .list-verdict .ensures) (c .before .r .given .1)
+    gives-not acksSays Refused (λ r. refl) (listTests s) (Says (acksAt s)) (c .before .before .before .list-verdict .ensures) (c .before .r .given .1)
 
 pub read-acks-spec : {M : Type 1} → statement M
 read-acks-spec =

@@ -1,8 +1,8 @@
 use mathlib.Core.Path.{refl, ap}
 use denote.Ref.{now}
 use Rattle.ground.proofs.Verdicts.{gives-it, gives-not}
-use Rattle.packet.specs.Read.{headTests, headAt, headAnswer}
-use Rattle.packet.specs.declared.HeadRead.the-variants.{Says, Refused}
+use Rattle.packet.specs.Read.{headTests, headAt, headSays}
+use Rattle.packet.specs.declared.HeadReading.the-variants.{Says, Refused}
 use borrow.Author.Needs.{needs}
 use Rattle.packet.proofs.read_head.Statement.{statement}
 use Rattle.packet.proofs.read_head.Tie as tie
@@ -22,12 +22,12 @@ enum-known-r c = search needs
 returns : tie.Need-returns
 returns c =
     let s = now (c .before .before .before .before .before .args .s) in
-    gives-it headAnswer Refused (λ r. refl) (headTests s) (Says (headAt s)) (c .before .before .before .head-verdict .ensures) (c .before .enum-told .given .1) (ap Says (c .head-at .ensures))
+    gives-it headSays Refused (λ r. refl) (headTests s) (Says (headAt s)) (c .before .before .before .head-verdict .ensures) (c .before .enum-told .given .1) (ap Says (c .head-at .ensures))
 
 returns-2 : tie.Need-returns-2
 returns-2 c =
     let s = now (c .before .before .before .before .before .args .s) in
-    gives-not headAnswer Refused (λ r. refl) (headTests s) (Says (headAt s)) (c .before .before .before .head-verdict .ensures) (c .before .r .given .1)
+    gives-not headSays Refused (λ r. refl) (headTests s) (Says (headAt s)) (c .before .before .before .head-verdict .ensures) (c .before .r .given .1)
 
 pub read-head-spec : {M : Type 1} → statement M
 read-head-spec =

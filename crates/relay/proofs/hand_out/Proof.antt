@@ -8,7 +8,7 @@ use Rattle.channel.specs.declared.Channel.{Channel}
 use Rattle.receiving.specs.declared.Receiving.{Receiving}
 use Rattle.line.specs.Line.{withReceiving}
 use Rattle.store.specs.Store.{octetsIn}
-use Rattle.relay.proofs.Lines.{region-size, room-there, hand-first, hand-reliable, hand-steps, hand-cap, hand-room, hand-size}
+use Rattle.relay.proofs.Lines.{region-size, slot-there, hand-first, hand-reliable, hand-steps, hand-cap, hand-room, hand-size}
 use borrow.Author.Needs.{needs}
 use Rattle.relay.proofs.hand_out.Statement.{statement}
 use Rattle.relay.proofs.hand_out.Tie as tie
@@ -36,9 +36,9 @@ copy-out-requires c κs =
     let m : ℕ = length (now (a .args .out)) in
     let s = c .before .before .before .before .receiving .ensures in
     let n = c .before .next-size .ensures ∙ ap (λ (r : Receiving). nextSize r) s in
-    let f = ap (λ (r : Receiving). r .first) s in
+    let f = ap (λ (r : Receiving). r .origin) s in
     rw (c .before .before .of2 .ensures, n, f)
-    (room-there (a .args .i) _ (a .args .channel) _ _ (a .pre .1) (hand-reliable (a .args .l) (a .pre .0) (a .args .channel) m (a .pre .3)) (hand-steps (a .args .l) (a .pre .0) (a .args .channel) m (a .pre .3) .placed) (a .pre .2), rw region-size (hand-size (a .args .l) (a .pre .0) (a .args .channel) m (a .pre .3)), hand-room (a .args .l) (a .pre .0) (a .args .channel) m (a .pre .3))
+    (slot-there (a .args .i) _ (a .args .channel) _ _ (a .pre .1) (hand-reliable (a .args .l) (a .pre .0) (a .args .channel) m (a .pre .3)) (hand-steps (a .args .l) (a .pre .0) (a .args .channel) m (a .pre .3) .placed) (a .pre .2), rw region-size (hand-size (a .args .l) (a .pre .0) (a .args .channel) m (a .pre .3)), hand-room (a .args .l) (a .pre .0) (a .args .channel) m (a .pre .3))
 
 handed-out-requires : tie.Need-handed-out-requires
 handed-out-requires c κs =
@@ -59,7 +59,7 @@ returns c =
     let w = ap (λ (k : Channel). k .window) (c .before .before .before .before .before .before .before .before .of .ensures) in
     let n = c .before .before .before .before .before .before .next-size .ensures ∙ ap (λ (r : Receiving). nextSize r) s in
     let t = c .before .handed-out .ensures ∙ (λ i. handedOut (w i) (s i)) in
-    (c .with-receiving .ensures ∙ ap (λ (r : Receiving). withReceiving (a .l) (a .channel) r) t, c .before .before .before .before .copy-out .ensures ∙ (λ i. octetsIn (now (a .store)) (c .before .before .before .before .before .before .before .of2 .ensures i) (s i .first) (n i) ++ drop (n i) (now (a .out))))
+    (c .with-receiving .ensures ∙ ap (λ (r : Receiving). withReceiving (a .l) (a .channel) r) t, c .before .before .before .before .copy-out .ensures ∙ (λ i. octetsIn (now (a .store)) (c .before .before .before .before .before .before .before .of2 .ensures i) (s i .origin) (n i) ++ drop (n i) (now (a .out))))
 
 pub hand-out-spec : {M : Type 1} → statement M
 hand-out-spec =

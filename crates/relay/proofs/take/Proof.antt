@@ -8,8 +8,8 @@ use Rattle.sending.specs.Sending.{nextPlace, tookOne}
 use Rattle.channel.specs.declared.Channel.{Channel}
 use Rattle.sending.specs.declared.Sending.{Sending}
 use Rattle.line.specs.Line.{withSending}
-use Rattle.store.specs.Store.{roomAt}
-use Rattle.relay.proofs.Lines.{region-size, room-there, take-reliable, take-size, take-steps, take-cap, take-window, take-place}
+use Rattle.store.specs.Store.{slotAt}
+use Rattle.relay.proofs.Lines.{region-size, slot-there, take-reliable, take-size, take-steps, take-cap, take-window, take-place}
 use borrow.Author.Needs.{needs}
 use Rattle.relay.proofs.take.Statement.{statement}
 use Rattle.relay.proofs.take.Tie as tie
@@ -36,7 +36,7 @@ put-requires c κs =
     let w = ap (λ (k : Channel). k .window) (c .before .before .before .of .ensures) in
     let p = c .before .before .next-place .ensures ∙ (λ i. nextPlace (w i) (c .before .before .before .before .sending .ensures i)) in
     rw (c .before .of2 .ensures, p)
-    (room-there (a .args .i) _ (a .args .channel) _ _ (a .pre .1) (take-reliable (a .args .l) (a .pre .0) (a .args .channel) n (a .pre .3)) (take-place (a .args .l) (a .pre .0) (a .args .channel) n (a .pre .3)) (a .pre .2), rw region-size (take-size (a .args .l) (a .pre .0) (a .args .channel) n (a .pre .3)))
+    (slot-there (a .args .i) _ (a .args .channel) _ _ (a .pre .1) (take-reliable (a .args .l) (a .pre .0) (a .args .channel) n (a .pre .3)) (take-place (a .args .l) (a .pre .0) (a .args .channel) n (a .pre .3)) (a .pre .2), rw region-size (take-size (a .args .l) (a .pre .0) (a .args .channel) n (a .pre .3)))
 
 cast-took : tie.Need-cast-took
 cast-took c =
@@ -64,7 +64,7 @@ returns c =
     let s = c .before .before .before .before .before .before .before .before .before .sending .ensures in
     let p = c .before .before .before .before .before .before .before .next-place .ensures ∙ (λ i. nextPlace (w i) (s i)) in
     let t = c .before .took .ensures ∙ (λ i. tookOne (w i) (s i) n) in
-    (c .with-sending .ensures ∙ ap (λ (k : Sending). withSending (a .args .l) (a .args .channel) k) t, c .before .before .before .before .put .ensures ∙ (λ i. sets (now (a .args .store)) (roomAt (c .before .before .before .before .before .before .of2 .ensures i) (p i)) (now (a .args .message))))
+    (c .with-sending .ensures ∙ ap (λ (k : Sending). withSending (a .args .l) (a .args .channel) k) t, c .before .before .before .before .put .ensures ∙ (λ i. sets (now (a .args .store)) (slotAt (c .before .before .before .before .before .before .of2 .ensures i) (p i)) (now (a .args .message))))
 
 pub take-spec : {M : Type 1} → statement M
 take-spec =

@@ -34,7 +34,7 @@ returns c =
     let x = c .before .before .long-at .ensures in
     let y = c .before .long-at2 .ensures in
     let z = c .long-at3 .ensures in
-    λ i. record { identifier = mid-of s 0 4 7 21 x i; kind = mid-of s 0 11 7 14 x i; first = bits-join s 18 14 10 32 (lit≤ tt) (low-of s 0 18 14 x) (top-of s 32 10 22 y) i; second = bits-join s 42 22 2 32 (lit≤ tt) (low-of s 32 10 22 y) (top-of s 64 2 30 z) i; reason = mid-of s 64 2 8 22 z i }
+    λ i. record { identifier = mid-of s 0 4 7 21 x i; kind = mid-of s 0 11 7 14 x i; count1 = bits-join s 18 14 10 32 (lit≤ tt) (low-of s 0 18 14 x) (top-of s 32 10 22 y) i; count2 = bits-join s 42 22 2 32 (lit≤ tt) (low-of s 32 10 22 y) (top-of s 64 2 30 z) i; reason = mid-of s 64 2 8 22 z i }
 
 pub slip-at-spec : {M : Type 1} → statement M
 slip-at-spec =

@@ -8,9 +8,7 @@ first-three-requires c κs = search needs
 
 returns : tie.Need-returns
 unfolding acksFor
-returns c =
-    let e = c .first-three .ensures in
-    λ i. record { count = e i .count; first = e i .one; second = e i .two; third = e i .three }
+returns c = c .first-three .ensures
 
 pub acks-for-spec : {M : Type 1} → statement M
 acks-for-spec = tie.close (tie.spec first-three-requires returns)

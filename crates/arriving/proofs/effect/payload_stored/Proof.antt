@@ -1,8 +1,8 @@
 use Rattle.channel.proofs.Windows.{window-narrow}
 use Rattle.arriving.proofs.Effects.{stored-near, receiving-steps, place-near, same-side, stored-line, stored-store}
 use Rattle.arriving.specs.Effect.{arrivalAt}
-use Rattle.relay.proofs.Lines.{region-size, room-there}
-use Rattle.store.specs.Store.{roomAt}
+use Rattle.relay.proofs.Lines.{region-size, slot-there}
+use Rattle.store.specs.Store.{slotAt}
 use Rattle.line.specs.Line.{receivingOf, withReceiving}
 use Rattle.receiving.specs.declared.Arrival.the-variants.{Stored, There, Old}
 use Rattle.channel.specs.declared.Channel.{Channel}
@@ -60,7 +60,7 @@ put-requires c κs =
     let w = ap (λ (k : Channel). k .window) (c .before .before .before .before .before .before .before .of .ensures) in
     let p = c .before .before .place-of .ensures ∙ (λ i. arrivalPlace (w i) (c .before .before .before .before .before .before .before .before .receiving .ensures i) (c .before .before .before .before .arrival2 .given .0 .0)) in
     rw (c .before .of2 .ensures, p)
-    (room-there (a .args .i) _ (a .args .channel) _ _ (a .pre .1) (a .pre .3) (place-near (a .args .l) (a .pre .0) (a .args .channel) (near (c .before .before .before))) (a .pre .2), rw region-size (a .pre .5))
+    (slot-there (a .args .i) _ (a .args .channel) _ _ (a .pre .1) (a .pre .3) (place-near (a .args .l) (a .pre .0) (a .args .channel) (near (c .before .before .before))) (a .pre .2), rw region-size (a .pre .5))
 
 cast-stored-at : tie.Need-cast-stored-at
 cast-stored-at c = search needs
@@ -92,7 +92,7 @@ returns c =
     let t = c .before .stored-at .ensures ∙ (λ i. storedAt (w i) (s i) d n) in
     let p = c .before .before .before .before .before .before .before .place-of .ensures ∙ (λ i. arrivalPlace (w i) (s i) d) in (
       c .with-receiving .ensures ∙ (λ i. withReceiving (c .before .before .before .before .before .before .before .before .before .before .before .before .before .before .number-owed .ensures i) (a .channel) (t i)) ∙ stored-line (a .l) (a .channel) (a .number) (new (c .before .before .before .before .before .before .before .before)) n,
-      c .before .before .before .before .put .ensures ∙ (λ i. sets (now (a .store)) (roomAt (c .before .before .before .before .before .before .of2 .ensures i) (p i)) (now (a .message))) ∙ stored-store (a .l) (a .channel) (a .number) (new (c .before .before .before .before .before .before .before .before)) (a .i) (now (a .message)) (now (a .store)),
+      c .before .before .before .before .put .ensures ∙ (λ i. sets (now (a .store)) (slotAt (c .before .before .before .before .before .before .of2 .ensures i) (p i)) (now (a .message))) ∙ stored-store (a .l) (a .channel) (a .number) (new (c .before .before .before .before .before .before .before .before)) (a .i) (now (a .message)) (now (a .store)),
     )
 
 returns-2 : tie.Need-returns-2

@@ -9,8 +9,8 @@ use borrow.Author.Needs.{needs}
 use Rattle.book.proofs.Book.closed_at.Statement.{statement}
 use Rattle.book.proofs.Book.closed_at.Tie as tie
 
-four : (c : tie.Start) → length (c .args .t1 .lines) ≡ 4
-four c = many _ (c .args .t1 .lines) (c .good .0 .1 .1 .0 .1 .0 .1)
+four-lines : (c : tie.Start) → length (c .args .t1 .lines) ≡ 4
+four-lines c = many _ (c .args .t1 .lines) (c .good .0 .1 .1 .0 .1 .0 .1)
 
 sixteen : (c : tie.Start) → length (c .args .t1 .resting) ≡ 16
 sixteen c = let g = c .good .0 .1 .1 .1 .0 in search needs
@@ -30,8 +30,8 @@ mul-closed c = search needs
 element-set-from-closed : tie.Need-element-set-from-closed
 element-set-from-closed c = search needs
 
-rested-requires : tie.Need-rested-requires
-rested-requires c κs = search needs
+with-one-more-requires : tie.Need-with-one-more-requires
+with-one-more-requires c κs = search needs
 
 add-next : tie.Need-add-next
 add-next c = search needs
@@ -40,19 +40,19 @@ returns : tie.Need-returns
 returns c =
     let s = c .before .before .before .before in
     let b = s .args .t1 in
-    let len = four s in
+    let len = four-lines s in
     let few = sixteen s in
     let n = length-take-le (b .rested) (b .resting) (omega arith) in
-    closes b (s .args .i) (b .rested + 1) _ (omega arith) (omega arith) (omega arith) (c .before .before .before .closed .ensures) (c .before .rested .ensures)
+    closes b (s .args .i) (b .rested + 1) _ (omega arith) (omega arith) (omega arith) (c .before .before .before .closed .ensures) (c .before .with-one-more .ensures)
 
 returns-2 : tie.Need-returns-2
 returns-2 c =
     let s = c .before .before .before .before in
     let b = s .args .t1 in
-    let len = four s in
+    let len = four-lines s in
     let few = sixteen s in
     let n = length-take-le (b .rested) (b .resting) (omega arith) in
-    closes b (s .args .i) (b .rested) _ (omega arith) (omega arith) (omega arith) (c .before .before .before .closed .ensures) (c .before .rested .ensures)
+    closes b (s .args .i) (b .rested) _ (omega arith) (omega arith) (omega arith) (c .before .before .before .closed .ensures) (c .before .with-one-more .ensures)
 
 pub closed-at-spec : {M : Type 1} → statement M
 closed-at-spec =
@@ -63,7 +63,7 @@ closed-at-spec =
     closed-requires
     mul-closed
     element-set-from-closed
-    rested-requires
+    with-one-more-requires
     add-next
     returns
     returns-2)

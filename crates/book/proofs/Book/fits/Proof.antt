@@ -17,7 +17,7 @@ lines c = sym (c .before .lines-fit .ensures) ∙ not-false _ (c .if1 .left)
 
 -- and each that rests is one of 0 to 127
 spans : (c : tie.Else3) → allSpan (restingOf (c .before .before .before .before .before .before .before .args .self)) ≡ true
-spans c = sym (c .before .span .ensures) ∙ not-false _ (c .if3 .left)
+spans c = sym (c .before .all-in-span .ensures) ∙ not-false _ (c .if3 .left)
 
 lines-fit-requires : tie.Need-lines-fit-requires
 lines-fit-requires c κs = search needs
@@ -30,19 +30,19 @@ returns-2 : tie.Need-returns-2
 unfolding bookFits
 returns-2 c = simp (lines (c .before .before), lt-leb _ _ (c .if2 .taken))
 
-span-requires : tie.Need-span-requires
-span-requires c κs = search needs
+all-in-span-requires : tie.Need-all-in-span-requires
+all-in-span-requires c κs = search needs
 
 returns-3 : tie.Need-returns-3
 unfolding bookFits
-returns-3 c = simp (lines (c .before .before .before .before .before), le-leb _ _ (c .before .before .before .if2 .left), sym (c .before .span .ensures) ∙ not-true _ (c .if3 .taken))
+returns-3 c = simp (lines (c .before .before .before .before .before), le-leb _ _ (c .before .before .before .if2 .left), sym (c .before .all-in-span .ensures) ∙ not-true _ (c .if3 .taken))
 
 open-seen-requires : tie.Need-open-seen-requires
 open-seen-requires c κs = lines (c .before .before .before .before .before)
 
-unseen-requires : tie.Need-unseen-requires
+all-new-requires : tie.Need-all-new-requires
 unfolding allSpan
-unseen-requires c κs =
+all-new-requires c κs =
     let few = c .before .before .before .before .if2 .left in
     let span = spans (c .before) in
     search needs
@@ -54,7 +54,7 @@ returns-4 c =
     let fit = lines (c .before .before .before .before .before .before .before) in
     let span = spans (c .before .before) in
     let seen = c .before .open-seen .ensures in
-    c .unseen .ensures
+    c .all-new .ensures
     ∙ ap₂ (λ (t : Bool) (m : List ℕ). t && newIn m (restingOf book)) (seen .0) (seen .1)
     ∙ once-is book fit span
     ∙ sym (simp (fit, le-leb _ _ (c .before .before .before .before .before .if2 .left), span))
@@ -66,8 +66,8 @@ fits-spec =
     lines-fit-requires
     returns
     returns-2
-    span-requires
+    all-in-span-requires
     returns-3
     open-seen-requires
-    unseen-requires
+    all-new-requires
     returns-4)

@@ -15,8 +15,8 @@ Inv-loop self i₀ i = (i ≤ 4) × (linesFit (drop i (self .lines)) ≡ linesFi
 abbrev μ-loop : tie.MeasureT-loop
 μ-loop self i₀ i = 4 - i
 
-four : (c : tie.Start Inv-loop μ-loop) → length (c .args .t1 .lines) ≡ 4
-four c = many _ (c .args .t1 .lines) (c .good .0 .1 .1 .0 .1 .0 .1)
+four-lines : (c : tie.Start Inv-loop μ-loop) → length (c .args .t1 .lines) ≡ 4
+four-lines c = many _ (c .args .t1 .lines) (c .good .0 .1 .1 .0 .1 .0 .1)
 
 loop-holds : tie.Need-loop-holds Inv-loop μ-loop
 loop-holds c = (search needs, refl)
@@ -34,7 +34,7 @@ returns : tie.Need-returns Inv-loop μ-loop
 returns c =
     let s = c .before .before .before .before .before in
     let l = c .before .before .before .before .loop in
-    let len = four s in
+    let len = four-lines s in
     sym (lines-lost (s .args .t1 .lines) (l .i) _ (omega arith) (sym (c .before .fits2 .ensures) ∙ not-true _ (c .if1 .taken))) ∙ l .inv .1
 
 add-i : tie.Need-add-i Inv-loop μ-loop
@@ -47,14 +47,14 @@ loop-again : tie.Need-loop-again Inv-loop μ-loop
 loop-again c =
     let s = c .before .before .before .before .before in
     let l = c .before .before .before .before .loop in
-    let len = four s in
+    let len = four-lines s in
     (omega arith, lines-on (s .args .t1 .lines) (l .i) _ (omega arith) (sym (c .before .fits2 .ensures) ∙ not-false _ (c .if1 .left)) ∙ l .inv .1)
 
 returns-2 : tie.Need-returns-2 Inv-loop μ-loop
 returns-2 c =
     let s = c .before .before in
     let l = c .before .loop in
-    let len = four s in
+    let len = four-lines s in
     sym (lines-end (s .args .t1 .lines) (l .i) (omega arith)) ∙ l .inv .1
 
 pub lines-fit-spec : {M : Type 1} → statement M

@@ -18,8 +18,8 @@ Inv-loop self marks₀ once₀ i₀ marks once i = (i ≤ 4) × Comes once marks
 abbrev μ-loop : tie.MeasureT-loop
 μ-loop self marks₀ once₀ i₀ marks once i = 4 - i
 
-four : (c : tie.Start Inv-loop μ-loop) → length (c .args .t1 .lines) ≡ 4
-four c = many _ (c .args .t1 .lines) (c .good .0 .1 .1 .0 .1 .0 .1)
+four-lines : (c : tie.Start Inv-loop μ-loop) → length (c .args .t1 .lines) ≡ 4
+four-lines c = many _ (c .args .t1 .lines) (c .good .0 .1 .1 .0 .1 .0 .1)
 
 loop-holds : tie.Need-loop-holds Inv-loop μ-loop
 loop-holds c = (search needs, (refl, refl))
@@ -39,20 +39,20 @@ element-copy-out-identifier c = omega arith
 cast-identifier : tie.Need-cast-identifier Inv-loop μ-loop
 cast-identifier c =
     let s = c .before .before .before in
-    let len = four s in
+    let len = four-lines s in
     let h = open-at (s .args .t1 .lines) (s .pre) (c .before .before .loop .i) _ (omega arith) (c .if1 .taken) in
     omega arith
 
 array-read-once : tie.Need-array-read-once Inv-loop μ-loop
 array-read-once c =
     let s = c .before .before .before in
-    let len = four s in
+    let len = four-lines s in
     open-at (s .args .t1 .lines) (s .pre) (c .before .before .loop .i) _ (omega arith) (c .if1 .taken)
 
 array-write-marks : tie.Need-array-write-marks Inv-loop μ-loop
 array-write-marks c =
     let s = c .before .before .before in
-    let len = four s in
+    let len = four-lines s in
     open-at (s .args .t1 .lines) (s .pre) (c .before .before .loop .i) _ (omega arith) (c .if1 .taken)
 
 add-i : tie.Need-add-i Inv-loop μ-loop
@@ -69,7 +69,7 @@ loop-again c =
     let t = newIn none (openIn ls) in
     let n = marked none (openIn ls) in
     let rest = openIn (drop (l .i + 1) ls) in
-    let len = four s in (
+    let len = four-lines s in (
       omega arith,
       ⊎-elim
           (λ w. rw (w .1, w .2) (comes-one (l .once) (l .marks) t n _ rest (rw (open-here ls (l .i) _ (omega arith) (w .0 .taken)) at (l .inv .1))))
@@ -82,7 +82,7 @@ returns c =
     let s = c .before .before in
     let l = c .before .loop in
     let ls = s .args .t1 .lines in
-    let len = four s in
+    let len = four-lines s in
     comes-end (l .once) (l .marks) (newIn none (openIn ls)) (marked none (openIn ls)) (rw (open-end ls (l .i) (omega arith)) at (l .inv .1))
 
 pub open-seen-spec : {M : Type 1} → statement M

@@ -21,28 +21,28 @@ use Rattle.places.proofs.Bits.{bit-past}
 use Rattle.places.proofs.Walks.{walk-begins, walk-at, walk-on, walk-below, walk-ends}
 
 abbrev Inv-loop : tie.InvT-loop
-Inv-loop first window largest sizes rest₀ i₀ rest i = (i ≤ window) × (maskOf rest ≡ maskOf rest₀ / 2 ^ i) ×
-    ((j : ℕ) → j < i → sizeAt window largest sizes (maskOf rest₀) first j ≡ true)
+Inv-loop origin window largest sizes rest₀ i₀ rest i = (i ≤ window) × (maskOf rest ≡ maskOf rest₀ / 2 ^ i) ×
+    ((j : ℕ) → j < i → sizeAt window largest sizes (maskOf rest₀) origin j ≡ true)
 
 abbrev μ-loop : tie.MeasureT-loop
-μ-loop first window largest sizes rest₀ i₀ rest i = window - i
+μ-loop origin window largest sizes rest₀ i₀ rest i = window - i
 
-module _ (w z : ℕ) (sizes : List ℕ) (m first i : ℕ) where
+module _ (w z : ℕ) (sizes : List ℕ) (m origin i : ℕ) where
   -- a place of the set, whose size was looked at, and one that is not in the set
-  met : {p : ℕ} {t : Bool} → bitOf m i ≡ true → p ≡ placeOf first i w → t ≡ sizeFits z (getD sizes p 0) → sizeAt w z sizes m first i ≡ t
+  met : {p : ℕ} {t : Bool} → bitOf m i ≡ true → p ≡ placeOf origin i w → t ≡ sizeFits z (getD sizes p 0) → sizeAt w z sizes m origin i ≡ t
   met b e f = rw b (ap (λ (p : ℕ). sizeFits z (getD sizes p 0)) (sym e) ∙ sym f)
 
-  unmet : bitOf m i ≡ false → sizeAt w z sizes m first i ≡ true
+  unmet : bitOf m i ≡ false → sizeAt w z sizes m origin i ≡ true
   unmet b = rw b
 
 -- once the loop has ended no place is left that it did not meet
-all-met : (w z : ℕ) (sizes : List ℕ) (m first i : ℕ) → m < 2 ^ i → ((j : ℕ) → j < i → sizeAt w z sizes m first j ≡ true) → (j : ℕ)
-    → sizeAt w z sizes m first j ≡ true
-all-met w z sizes m first i h f j = go (decLt j i)
+all-met : (w z : ℕ) (sizes : List ℕ) (m origin i : ℕ) → m < 2 ^ i → ((j : ℕ) → j < i → sizeAt w z sizes m origin j ≡ true) → (j : ℕ)
+    → sizeAt w z sizes m origin j ≡ true
+all-met w z sizes m origin i h f j = go (decLt j i)
   where
-    go : Dec (j < i) → sizeAt w z sizes m first j ≡ true
+    go : Dec (j < i) → sizeAt w z sizes m origin j ≡ true
     go (yes q) = f j q
-    go (no q) = unmet w z sizes m first j (bit-past m i j h (omega arith))
+    go (no q) = unmet w z sizes m origin j (bit-past m i j h (omega arith))
 
 -- in the loop's body place i is one of the window's
 at-loop : (c : tie.After-empty Inv-loop μ-loop) → not (c .empty .result) ≡ true → c .before .loop .i < c .before .before .args .window
@@ -74,7 +74,7 @@ array-read-size-fits c =
     let a = c .before .before .before .before .before .before .args in
     let l = c .before .before .before .before .before .loop in
     let k = at-loop (c .before .before .before .before) (c .before .before .before .if1 .taken) in
-    omega (arith, c .place .ensures, place-lt (a .window) (a .first) (l .i) (c .before .before .before .before .before .before .pre .0) (omega arith))
+    omega (arith, c .place .ensures, place-lt (a .window) (a .origin) (l .i) (c .before .before .before .before .before .before .pre .0) (omega arith))
 
 size-fits-requires : tie.Need-size-fits-requires Inv-loop μ-loop
 size-fits-requires c κs = search needs
@@ -87,8 +87,8 @@ returns c =
     let l = s .before .before .loop in
     let b = sym (walk-at (maskOf (a .set)) (l .i) (maskOf (l .rest)) (l .inv .1)) ∙ sym (c .before .before .before .before .has .ensures)
     ∙ c .before .before .before .if2 .taken in
-    sym (every-not (sizeAt (a .window) (a .largest) (a .t1) (maskOf (a .set)) (a .first)) (a .window) (l .i) (at-loop (s .before) (s .if1 .taken))
-    (met (a .window) (a .largest) (a .t1) (maskOf (a .set)) (a .first) (l .i) b (c .before .before .place .ensures)
+    sym (every-not (sizeAt (a .window) (a .largest) (a .t1) (maskOf (a .set)) (a .origin)) (a .window) (l .i) (at-loop (s .before) (s .if1 .taken))
+    (met (a .window) (a .largest) (a .t1) (maskOf (a .set)) (a .origin) (l .i) b (c .before .before .place .ensures)
     (c .before .size-fits .ensures) ∙ not-true _ (c .if3 .taken)))
 
 dropped-requires : tie.Need-dropped-requires Inv-loop μ-loop
@@ -109,10 +109,10 @@ loop-again c =
     let b = sym (walk-at m (l .i) (maskOf (l .rest)) (l .inv .1)) ∙ sym (c .before .before .has .ensures) in (
       omega (arith, at-loop (s .before) (s .if1 .taken)),
       ap (λ (p : Places). maskOf p) (c .dropped .ensures) ∙ walk-on m (l .i) (maskOf (l .rest)) (l .inv .1),
-      λ j q. below-suc (λ k. sizeAt (a .window) (a .largest) (a .t1) m (a .first) k ≡ true) (l .i) (l .inv .2)
-          (⊎-elim (λ w. met (a .window) (a .largest) (a .t1) m (a .first) (l .i) (b ∙ w .0 .taken) (w .1 .ensures) (w .2 .ensures)
+      λ j q. below-suc (λ k. sizeAt (a .window) (a .largest) (a .t1) m (a .origin) k ≡ true) (l .i) (l .inv .2)
+          (⊎-elim (λ w. met (a .window) (a .largest) (a .t1) m (a .origin) (l .i) (b ∙ w .0 .taken) (w .1 .ensures) (w .2 .ensures)
           ∙ not-false _ (w .3 .left))
-          (λ w. unmet (a .window) (a .largest) (a .t1) m (a .first) (l .i) (b ∙ w .left)) (c .before .if2 .came)) j (omega arith),
+          (λ w. unmet (a .window) (a .largest) (a .t1) m (a .origin) (l .i) (b ∙ w .left)) (c .before .if2 .came)) j (omega arith),
     )
 
 returns-2 : tie.Need-returns-2 Inv-loop μ-loop
@@ -123,8 +123,8 @@ returns-2 c =
     let m = maskOf (a .set) in
     let e : not (eqb (maskOf (l .rest)) 0) ≡ false = ap not (sym (c .before .empty .ensures)) ∙ c .if1 .left in
     let h = walk-ends m (l .i) (maskOf (l .rest)) (l .inv .1) e in
-    sym (every-all (sizeAt (a .window) (a .largest) (a .t1) m (a .first)) (a .window)
-    (λ j q. all-met (a .window) (a .largest) (a .t1) m (a .first) (l .i) h (l .inv .2) j))
+    sym (every-all (sizeAt (a .window) (a .largest) (a .t1) m (a .origin)) (a .window)
+    (λ j q. all-met (a .window) (a .largest) (a .t1) m (a .origin) (l .i) h (l .inv .2) j))
 
 pub sizes-fit-spec : {M : Type 1} → statement M
 sizes-fit-spec =

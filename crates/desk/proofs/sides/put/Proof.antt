@@ -1,6 +1,6 @@
 use lib.Bits.{mask-lt}
 use native.Mathlib.Omega.{arith}
-use Rattle.desk.proofs.Rooms.{room-small}
+use Rattle.desk.proofs.Slots.{room-small}
 use borrow.Author.Needs.{needs}
 use Rattle.desk.proofs.sides.put.Statement.{statement}
 use Rattle.desk.proofs.sides.put.Tie as tie
@@ -8,8 +8,8 @@ use Rattle.desk.proofs.sides.put.Tie as tie
 of-requires : tie.Need-of-requires
 of-requires c κs = search needs
 
-room-requires : tie.Need-room-requires
-room-requires c κs =
+slot-requires : tie.Need-slot-requires
+slot-requires c κs =
     let a = c .before .before .before .args in
     rw (c .of .ensures) (room-small _ (a .way) (a .channel) (a .place) (omega (arith, mask-lt (a .i) 2)) (omega arith))
 
@@ -45,7 +45,7 @@ put-spec =
     tie.close
     (tie.spec
     of-requires
-    room-requires
+    slot-requires
     put-requires
     same-length
     returns

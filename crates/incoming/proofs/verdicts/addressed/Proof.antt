@@ -1,6 +1,6 @@
 use Rattle.incoming.proofs.Arrivals.{head-passes, head-refuses, head-is, address-refused, address-at, address-nobody}
 use denote.Ref.{now}
-use Rattle.book.specs.Book.{whose}
+use Rattle.book.specs.Book.{ownerOf}
 use Rattle.packet.specs.declared.Head.{Head}
 use mathlib.Core.Path.{sym, ap, _∙_}
 use borrow.Author.Needs.{needs}
@@ -16,8 +16,8 @@ enum-known-head c = search needs
 enum-known-head-2 : tie.Need-enum-known-head-2
 enum-known-head-2 c = search needs
 
-whose-requires : tie.Need-whose-requires
-whose-requires c κs = search needs
+owner-of-requires : tie.Need-owner-of-requires
+owner-of-requires c κs = search needs
 
 enum-known-owner : tie.Need-enum-known-owner
 enum-known-owner c = search needs
@@ -33,14 +33,14 @@ returns-2 c =
     let a = c .before .before .before .before .before .before .before .before .before .args in
     let e = c .before .before .before .before .before .before .before .read-head .ensures .is in
     let p = c .before .before .before .before .before .head2 .given .1 in
-    address-at (a .book) (now (a .s)) (head-passes (now (a .s)) e p) (ap (λ (h : Head). whose (a .book) (h .identifier)) (sym (head-is (now (a .s)) e p)) ∙ sym (c .before .before .before .whose .ensures) ∙ c .before .owner .given .1)
+    address-at (a .book) (now (a .s)) (head-passes (now (a .s)) e p) (ap (λ (h : Head). ownerOf (a .book) (h .identifier)) (sym (head-is (now (a .s)) e p)) ∙ sym (c .before .before .before .owner-of .ensures) ∙ c .before .owner .given .1)
 
 returns-3 : tie.Need-returns-3
 returns-3 c =
     let a = c .before .before .before .before .before .before .before .before .args in
     let e = c .before .before .before .before .before .before .read-head .ensures .is in
     let p = c .before .before .before .before .head2 .given .1 in
-    address-nobody (a .book) (now (a .s)) (head-passes (now (a .s)) e p) (ap (λ (h : Head). whose (a .book) (h .identifier)) (sym (head-is (now (a .s)) e p)) ∙ sym (c .before .before .whose .ensures) ∙ c .enum-told .given .1)
+    address-nobody (a .book) (now (a .s)) (head-passes (now (a .s)) e p) (ap (λ (h : Head). ownerOf (a .book) (h .identifier)) (sym (head-is (now (a .s)) e p)) ∙ sym (c .before .before .owner-of .ensures) ∙ c .enum-told .given .1)
 
 pub addressed-spec : {M : Type 1} → statement M
 addressed-spec =
@@ -49,7 +49,7 @@ addressed-spec =
     read-head-requires
     enum-known-head
     enum-known-head-2
-    whose-requires
+    owner-of-requires
     enum-known-owner
     enum-told
     returns

@@ -1,6 +1,6 @@
 use Rattle.book.proofs.Turns.{many}
 use Rattle.incoming.proofs.Arrivals.{addressed-in, addressed-line, arrival-on, arrival-stop, arrives}
-use Rattle.incoming.specs.declared.MayArrive.the-variants as may
+use Rattle.incoming.specs.declared.ArriveVerdict.the-variants as may
 use Rattle.arriving.specs.Arrive.{arriveTests}
 use Rattle.line.specs.declared.Line.{Line}
 use Rattle.ground.specs.Refusal.{verdict}

@@ -7,11 +7,11 @@ use Rattle.mode.proofs.indication.hear.Statement.{statement}
 use Rattle.mode.proofs.indication.hear.Tie as tie
 use mathlib.Core.List.{[], _∷_}
 use Rattle.ground.proofs.Settled.{settles-took, settles-refused}
-use Rattle.mode.specs.Indication.{hearing, notice}
+use Rattle.mode.specs.Indication.{hearStep, notice}
 use Rattle.ground.specs.Pick.{bit}
 use Rattle.ground.specs.Answer.{accepted}
 use Rattle.mode.specs.Moved.{channelsFor}
-use Rattle.mode.specs.declared.Heard.the-variants.{Mode}
+use Rattle.mode.specs.declared.HearAnswer.the-variants.{Mode}
 
 hear-verdict-requires : tie.Need-hear-verdict-requires
 hear-verdict-requires c κs = search needs
@@ -32,21 +32,21 @@ enum-known-why : tie.Need-enum-known-why
 enum-known-why c = search needs
 
 returns : tie.Need-returns
-unfolding hearing
+unfolding hearStep
 returns c =
     let a = c .before .before .before .before .before .before .before .args in
     let v = c .before .before .before .before .before .before .hear-verdict in
-    let told = c .before .before .before .before .enum-told .given .1 in
+    let verdict-of-answer = c .before .before .before .before .enum-told .given .1 in
     let local = c .before .before .before .heard-mode .ensures in
     let made = c .before .heard-modes .ensures in
     let channels = c .channels-for .ensures ∙ ap (λ (s : ℕ). channelsFor (a .modes .local) s) local in
     let n = notice (a .modes) (a .mode) in (
-      settles-took _ _ _ (v .ensures) told (λ i. record { answer = Mode (local i) n; modes = made i; channels = channels i }),
-      settles-took _ _ _ (v .ensures) told (λ i. accepted (local i ∷ bit n ∷ [])),
+      settles-took _ _ _ (v .ensures) verdict-of-answer (λ i. record { answer = Mode (local i) n; modes = made i; channels = channels i }),
+      settles-took _ _ _ (v .ensures) verdict-of-answer (λ i. accepted (local i ∷ bit n ∷ [])),
     )
 
 returns-2 : tie.Need-returns-2
-unfolding hearing
+unfolding hearStep
 returns-2 c =
     let v = c .before .before .before .hear-verdict in
     let why = c .before .why .given .1 in

@@ -6,8 +6,8 @@ use Rattle.mode.proofs.recovery.tick.Statement.{statement}
 use Rattle.mode.proofs.recovery.tick.Tie as tie
 use Rattle.ground.proofs.Settled.{settles-took, settles-refused}
 use Rattle.mode.specs.declared.Modes.{Modes}
-use Rattle.mode.specs.Recovery.{ticking}
-use Rattle.mode.specs.Says.{tickedSays}
+use Rattle.mode.specs.Recovery.{tickStep}
+use Rattle.mode.specs.Says.{tickSays}
 use Rattle.mode.specs.Moved.{channelsFor}
 use Rattle.mode.proofs.Tries.{answer-says}
 
@@ -30,20 +30,20 @@ enum-known-why : tie.Need-enum-known-why
 enum-known-why c = search needs
 
 returns : tie.Need-returns
-unfolding ticking
+unfolding tickStep
 returns c =
     let a = c .before .before .before .before .before .before .args in
     let v = c .before .before .before .before .before .tick-verdict in
-    let told = c .before .before .before .enum-told .given .1 in
+    let verdict-of-answer = c .before .before .before .enum-told .given .1 in
     let answer = c .before .before .ticked-answer .ensures in
     let made = c .before .ticked-modes .ensures in
     let channels = c .channels-for .ensures ∙ ap (λ (n : Modes). channelsFor (a .modes .local) (n .local)) made in (
-      settles-took _ _ _ (v .ensures) told (λ i. record { answer = answer i; modes = made i; channels = channels i }),
-      settles-took _ _ _ (v .ensures) told (ap tickedSays answer ∙ answer-says (a .modes) (a .time)),
+      settles-took _ _ _ (v .ensures) verdict-of-answer (λ i. record { answer = answer i; modes = made i; channels = channels i }),
+      settles-took _ _ _ (v .ensures) verdict-of-answer (ap tickSays answer ∙ answer-says (a .modes) (a .time)),
     )
 
 returns-2 : tie.Need-returns-2
-unfolding ticking
+unfolding tickStep
 returns-2 c =
     let v = c .before .before .before .tick-verdict in
     let why = c .before .why .given .1 in

@@ -4,9 +4,9 @@ use mathlib.Core.Path.{refl}
 use borrow.Author.Needs.{needs}
 use Rattle.mode.proofs.request.ask.Statement.{statement}
 use Rattle.mode.proofs.request.ask.Tie as tie
-use Rattle.mode.specs.Request.{asking}
+use Rattle.mode.specs.Request.{askStep}
 use Rattle.ground.proofs.Settled.{settles-took, settles-refused}
-use Rattle.mode.specs.declared.Asked.the-variants.{Mode}
+use Rattle.mode.specs.declared.AskAnswer.the-variants.{Mode}
 
 ask-verdict-requires : tie.Need-ask-verdict-requires
 ask-verdict-requires c κs = search needs
@@ -24,16 +24,16 @@ enum-known-why : tie.Need-enum-known-why
 enum-known-why c = search needs
 
 returns : tie.Need-returns
-unfolding asking
+unfolding askStep
 returns c =
     let v = c .before .before .before .before .ask-verdict in
-    let told = c .before .before .enum-told .given .1 in
+    let verdict-of-answer = c .before .before .enum-told .given .1 in
     let made = c .before .moved .ensures in
     let channels = c .channels-for .ensures in
-    (settles-took _ _ _ (v .ensures) told (λ i. record { answer = Mode (c .before .before .before .before .before .args .mode); modes = made i; channels = channels i }), settles-took _ _ _ (v .ensures) told refl)
+    (settles-took _ _ _ (v .ensures) verdict-of-answer (λ i. record { answer = Mode (c .before .before .before .before .before .args .mode); modes = made i; channels = channels i }), settles-took _ _ _ (v .ensures) verdict-of-answer refl)
 
 returns-2 : tie.Need-returns-2
-unfolding asking
+unfolding askStep
 returns-2 c =
     let v = c .before .before .before .ask-verdict in
     let why = c .before .why .given .1 in

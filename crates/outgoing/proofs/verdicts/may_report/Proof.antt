@@ -1,7 +1,7 @@
-use Rattle.calls.proofs.Firsts.{on-line}
+use Rattle.calls.proofs.FirstTests.{on-line}
 use Rattle.calls.specs.Order.{fitBook, lineNumber}
 use Rattle.book.specs.Book.{lineOf}
-use Rattle.relay.specs.Asked.{relayTests}
+use Rattle.relay.specs.RelayTests.{relayChannelTests}
 use Rattle.line.specs.declared.Line.{Line}
 use Rattle.ground.proofs.Verdicts.{verdict-on, verdict-stop}
 use Rattle.ground.specs.Refusal.{verdict}
@@ -11,35 +11,35 @@ use borrow.Author.Needs.{needs}
 use Rattle.outgoing.proofs.verdicts.may_report.Statement.{statement}
 use Rattle.outgoing.proofs.verdicts.may_report.Tie as tie
 
-on-line-requires : tie.Need-on-line-requires
-on-line-requires c κs = search needs
+line-verdict-requires : tie.Need-line-verdict-requires
+line-verdict-requires c κs = search needs
 
-enum-known-first : tie.Need-enum-known-first
-enum-known-first c = search needs
+enum-known-earlier : tie.Need-enum-known-earlier
+enum-known-earlier c = search needs
 
 enum-told : tie.Need-enum-told
 enum-told c = search needs
 
 line-requires : tie.Need-line-requires
-line-requires c κs = on-line (c .before .before .before .args .book) (c .before .before .before .args .line) (sym (c .before .before .on-line .ensures) ∙ c .enum-told .given .1) .number
+line-requires c κs = on-line (c .before .before .before .args .book) (c .before .before .before .args .line) (sym (c .before .before .line-verdict .ensures) ∙ c .enum-told .given .1) .number
 
-asked-requires : tie.Need-asked-requires
-asked-requires c κs = search needs
+channel-verdict-requires : tie.Need-channel-verdict-requires
+channel-verdict-requires c κs = search needs
 
 returns : tie.Need-returns
-returns c = let a = c .before .before .before .before .args in sym (verdict-stop (fitBook (a .book) ∷ lineNumber (a .line) ∷ []) (relayTests (lineOf (a .book) (a .line)) (a .channel)) (sym (c .before .before .before .on-line .ensures) ∙ c .before .first .given .1))
+returns c = let a = c .before .before .before .before .args in sym (verdict-stop (fitBook (a .book) ∷ lineNumber (a .line) ∷ []) (relayChannelTests (lineOf (a .book) (a .line)) (a .channel)) (sym (c .before .before .before .line-verdict .ensures) ∙ c .before .earlier .given .1))
 
 returns-2 : tie.Need-returns-2
-returns-2 c = let a = c .before .before .before .before .before .args in c .asked .ensures ∙ ap (λ (l : Line). verdict (relayTests l (a .channel))) (c .before .line .ensures) ∙ sym (verdict-on (fitBook (a .book) ∷ lineNumber (a .line) ∷ []) (relayTests (lineOf (a .book) (a .line)) (a .channel)) (sym (c .before .before .before .before .on-line .ensures) ∙ c .before .before .enum-told .given .1))
+returns-2 c = let a = c .before .before .before .before .before .args in c .channel-verdict .ensures ∙ ap (λ (l : Line). verdict (relayChannelTests l (a .channel))) (c .before .line .ensures) ∙ sym (verdict-on (fitBook (a .book) ∷ lineNumber (a .line) ∷ []) (relayChannelTests (lineOf (a .book) (a .line)) (a .channel)) (sym (c .before .before .before .before .line-verdict .ensures) ∙ c .before .before .enum-told .given .1))
 
 pub may-report-spec : {M : Type 1} → statement M
 may-report-spec =
     tie.close
     (tie.spec
-    on-line-requires
-    enum-known-first
+    line-verdict-requires
+    enum-known-earlier
     enum-told
     line-requires
-    asked-requires
+    channel-verdict-requires
     returns
     returns-2)

@@ -1,4 +1,4 @@
-use Rattle.calls.proofs.Firsts.{on-line}
+use Rattle.calls.proofs.FirstTests.{on-line}
 use Rattle.calls.specs.Order.{fitBook, lineNumber}
 use Rattle.book.specs.Book.{lineOf}
 use Rattle.writing.specs.Write.{emptyTests}
@@ -11,33 +11,33 @@ use borrow.Author.Needs.{needs}
 use Rattle.outgoing.proofs.verdicts.may_write_empty.Statement.{statement}
 use Rattle.outgoing.proofs.verdicts.may_write_empty.Tie as tie
 
-on-line-requires : tie.Need-on-line-requires
-on-line-requires c κs = search needs
+line-verdict-requires : tie.Need-line-verdict-requires
+line-verdict-requires c κs = search needs
 
-enum-known-first : tie.Need-enum-known-first
-enum-known-first c = search needs
+enum-known-earlier : tie.Need-enum-known-earlier
+enum-known-earlier c = search needs
 
 enum-told : tie.Need-enum-told
 enum-told c = search needs
 
 line-requires : tie.Need-line-requires
-line-requires c κs = on-line (c .before .before .before .args .book) (c .before .before .before .args .line) (sym (c .before .before .on-line .ensures) ∙ c .enum-told .given .1) .number
+line-requires c κs = on-line (c .before .before .before .args .book) (c .before .before .before .args .line) (sym (c .before .before .line-verdict .ensures) ∙ c .enum-told .given .1) .number
 
 may-write-empty-requires : tie.Need-may-write-empty-requires
 may-write-empty-requires c κs = search needs
 
 returns : tie.Need-returns
-returns c = let a = c .before .before .before .before .args in sym (verdict-stop (fitBook (a .book) ∷ lineNumber (a .line) ∷ []) (emptyTests (lineOf (a .book) (a .line)) (a .channel) (a .room)) (sym (c .before .before .before .on-line .ensures) ∙ c .before .first .given .1))
+returns c = let a = c .before .before .before .before .args in sym (verdict-stop (fitBook (a .book) ∷ lineNumber (a .line) ∷ []) (emptyTests (lineOf (a .book) (a .line)) (a .channel) (a .space)) (sym (c .before .before .before .line-verdict .ensures) ∙ c .before .earlier .given .1))
 
 returns-2 : tie.Need-returns-2
-returns-2 c = let a = c .before .before .before .before .before .args in c .may-write-empty .ensures ∙ ap (λ (l : Line). verdict (emptyTests l (a .channel) (a .room))) (c .before .line .ensures) ∙ sym (verdict-on (fitBook (a .book) ∷ lineNumber (a .line) ∷ []) (emptyTests (lineOf (a .book) (a .line)) (a .channel) (a .room)) (sym (c .before .before .before .before .on-line .ensures) ∙ c .before .before .enum-told .given .1))
+returns-2 c = let a = c .before .before .before .before .before .args in c .may-write-empty .ensures ∙ ap (λ (l : Line). verdict (emptyTests l (a .channel) (a .space))) (c .before .line .ensures) ∙ sym (verdict-on (fitBook (a .book) ∷ lineNumber (a .line) ∷ []) (emptyTests (lineOf (a .book) (a .line)) (a .channel) (a .space)) (sym (c .before .before .before .before .line-verdict .ensures) ∙ c .before .before .enum-told .given .1))
 
 pub may-write-empty-spec : {M : Type 1} → statement M
 may-write-empty-spec =
     tie.close
     (tie.spec
-    on-line-requires
-    enum-known-first
+    line-verdict-requires
+    enum-known-earlier
     enum-told
     line-requires
     may-write-empty-requires

@@ -12,7 +12,7 @@ returns : tie.Need-returns
 unfolding emptiedReceiving
 returns c =
     let r = c .before .before .args .self in
-    λ i. record { next = r .next; stored = c .before .none .ensures i; first = r .first; sizes = r .sizes }
+    λ i. record { next = r .next; stored = c .before .none .ensures i; origin = r .origin; sizes = r .sizes }
 
 pub emptied-spec : {M : Type 1} → statement M
 emptied-spec = tie.close (tie.spec none-requires returns)

@@ -21,7 +21,7 @@ element-write-next : tie.Need-element-write-next
 element-write-next c =
     let a = c .before .before .args in
     let k = c .before .before .pre in
-    omega (arith, c .before .place-of .ensures, place-lt (a .window) (a .self .first) (a .d) (k .0 .placed) (omega arith))
+    omega (arith, c .before .place-of .ensures, place-lt (a .window) (a .self .origin) (a .d) (k .0 .placed) (omega arith))
 
 returns : tie.Need-returns
 unfolding storedAt

@@ -12,7 +12,7 @@ returns : tie.Need-returns
 unfolding emptiedSending
 returns c =
     let s = c .before .before .args .self in
-    λ i. record { taken = s .taken; base = s .base; unacked = c .before .none .ensures i; first = s .first; sizes = s .sizes }
+    λ i. record { taken = s .taken; base = s .base; unacked = c .before .none .ensures i; origin = s .origin; sizes = s .sizes }
 
 pub emptied-spec : {M : Type 1} → statement M
 emptied-spec = tie.close (tie.spec none-requires returns)

@@ -39,7 +39,7 @@ element-copy-out-size c =
     omega (
       arith,
       c .place .ensures,
-      place-lt (s .args .window) (s .args .t1 .first) (c .before .before .found .given .0 .0)
+      place-lt (s .args .window) (s .args .t1 .origin) (c .before .before .found .given .0 .0)
           (s .pre .placed) (omega (arith, s .pre)),
       s .pre,
     )

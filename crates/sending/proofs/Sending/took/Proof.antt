@@ -28,7 +28,7 @@ element-write-next c =
     omega (
       arith,
       c .before .before .next-place .ensures,
-      place-lt (a .window) (a .self .first) (a .self .taken - a .self .base)
+      place-lt (a .window) (a .self .origin) (a .self .taken - a .self .base)
           (k .0 .placed) (k .0 .windowed),
     )
 

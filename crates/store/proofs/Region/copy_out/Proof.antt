@@ -10,7 +10,7 @@ use mathlib.Core.Path.{_≡_, refl, sym, ap₂, _∙_}
 use lib.ListN.{length, getD, set, take, drop, length-set, length-drop}
 use lib.Seq.{paste, paste-zero, paste-suc, getD-drop}
 use denote.Ref.{now}
-use Rattle.store.proofs.Rooms.{room-end}
+use Rattle.store.proofs.Slots.{slot-end}
 
 abbrev Inv-loop : tie.InvT-loop
 Inv-loop store place size out₀ from i₀ out i = (i ≤ size) × (length out ≡ length out₀) × (out ≡ paste out₀ 0 (drop from store) i)
@@ -18,21 +18,21 @@ Inv-loop store place size out₀ from i₀ out i = (i ≤ size) × (length out �
 abbrev μ-loop : tie.MeasureT-loop
 μ-loop store place size out₀ from i₀ out i = size - i
 
--- the octets to copy are in the room, and the room in the store
-in-room : (c : tie.After-room Inv-loop μ-loop) → let a = c .before .before .before .args in c .room .result + a .size ≤ length (now (a .store))
+-- the octets to copy are in the slot, and the slot in the store
+in-room : (c : tie.After-slot Inv-loop μ-loop) → let a = c .before .before .before .args in c .slot .result + a .size ≤ length (now (a .store))
 in-room c =
     let s = c .before .before .before in
-    omega (arith, c .room .ensures, room-end (s .args .self) (s .args .place) (s .pre .0 .placed), s .pre .0 .inside, s .pre .1)
+    omega (arith, c .slot .ensures, slot-end (s .args .self) (s .args .place) (s .pre .0 .placed), s .pre .0 .inside, s .pre .1)
 
-room-requires : tie.Need-room-requires Inv-loop μ-loop
-room-requires c κs =
+slot-requires : tie.Need-slot-requires Inv-loop μ-loop
+slot-requires c κs =
     let s = c .before .before in
-    omega (arith, room-end (s .args .self) (s .args .place) (s .pre .0 .placed), s .pre .0 .inside)
+    omega (arith, slot-end (s .args .self) (s .args .place) (s .pre .0 .placed), s .pre .0 .inside)
 
 loop-holds : tie.Need-loop-holds Inv-loop μ-loop
 loop-holds c =
     let a = c .before .before .before .args in
-    (search needs, refl, paste-zero (now (a .out)) 0 (drop (c .room .result) (now (a .store))))
+    (search needs, refl, paste-zero (now (a .out)) 0 (drop (c .slot .result) (now (a .store))))
 
 add-out : tie.Need-add-out Inv-loop μ-loop
 add-out c = omega (arith, in-room (c .before .before))
@@ -54,10 +54,10 @@ loop-again c =
     let l = c .before .before .loop in
     let r = c .before .before .before in
     let a = r .before .before .before .args in
-    let from = drop (r .room .result) (now (a .store)) in
-    let at : getD from (l .i) 0 ≡ getD (now (a .store)) (r .room .result + l .i) 0 = getD-drop (r .room .result) (now (a .store)) (l .i) 0 in
+    let from = drop (r .slot .result) (now (a .store)) in
+    let at : getD from (l .i) 0 ≡ getD (now (a .store)) (r .slot .result + l .i) 0 = getD-drop (r .slot .result) (now (a .store)) (l .i) 0 in
     let more = paste-suc (now (a .out)) 0 from (l .i) 0 (omega (arith, r .before .before .before .pre))
-    (omega (arith, in-room r, length-drop (r .room .result) (now (a .store)))) in (
+    (omega (arith, in-room r, length-drop (r .slot .result) (now (a .store)))) in (
       omega arith,
       simp length-set (l .inv .1),
       rw (l .inv .2, add-one) (ap₂ (λ (j v : ℕ). set (paste (now (a .out)) 0 from (l .i)) j v) (sym (zero-add (l .i))) (sym at) ∙ more),
@@ -73,7 +73,7 @@ returns c =
     let a = r .before .before .before .args in
     let e : l .i ≡ a .size = omega arith in
     rw e at (l .inv .2)
-    ∙ ap₂ (λ (k j : ℕ). take (a .size) (drop k (now (a .store))) ++ drop j (now (a .out))) (r .room .ensures) (zero-add (a .size))
+    ∙ ap₂ (λ (k j : ℕ). take (a .size) (drop k (now (a .store))) ++ drop j (now (a .out))) (r .slot .ensures) (zero-add (a .size))
 
 pub copy-out-spec : {M : Type 1} → statement M
 copy-out-spec =
@@ -81,7 +81,7 @@ copy-out-spec =
     (tie.spec
     Inv-loop
     μ-loop
-    room-requires
+    slot-requires
     loop-holds
     add-out
     shared-slice-read-out

@@ -4,7 +4,7 @@ use Rattle.store.proofs.Region.of.Tie as tie
 use native.Mathlib.Omega.{arith}
 use borrow.Author.Tests.{eq-eqb, ne-eqb}
 use Rattle.store.specs.Store.{regionOf}
-use Rattle.store.proofs.Rooms.{way-lt}
+use Rattle.store.proofs.Slots.{way-lt}
 
 number-requires : tie.Need-number-requires
 number-requires c κs = search needs

@@ -9,7 +9,7 @@ use mathlib.Core.Path.{_≡_, refl, sym, ap, _∙_}
 use lib.ListN.{length, take, drop, length-set}
 use lib.Seq.{paste, paste-zero, paste-suc, sets, sets-eq, take-length}
 use denote.Ref.{now}
-use Rattle.store.proofs.Rooms.{room-end}
+use Rattle.store.proofs.Slots.{slot-end}
 
 abbrev Inv-loop : tie.InvT-loop
 Inv-loop store₀ place message at i₀ store i = (i ≤ length message) × (length store ≡ length store₀) × (store ≡ paste store₀ at message i)
@@ -17,22 +17,22 @@ Inv-loop store₀ place message at i₀ store i = (i ≤ length message) × (len
 abbrev μ-loop : tie.MeasureT-loop
 μ-loop store₀ place message at i₀ store i = length message - i
 
--- the message fits its room, and the room the store
-in-room : (c : tie.After-room Inv-loop μ-loop) → let a = c .before .before .before .args in c .room .result + length
+-- the message fits its slot, and the slot the store
+in-room : (c : tie.After-slot Inv-loop μ-loop) → let a = c .before .before .before .args in c .slot .result + length
     (now (a .message)) ≤ length (now (a .store))
 in-room c =
     let s = c .before .before .before in
-    omega (arith, c .room .ensures, room-end (s .args .self) (s .args .place) (s .pre .0 .placed), s .pre .0 .inside, s .pre .1)
+    omega (arith, c .slot .ensures, slot-end (s .args .self) (s .args .place) (s .pre .0 .placed), s .pre .0 .inside, s .pre .1)
 
-room-requires : tie.Need-room-requires Inv-loop μ-loop
-room-requires c κs =
+slot-requires : tie.Need-slot-requires Inv-loop μ-loop
+slot-requires c κs =
     let s = c .before .before in
-    omega (arith, room-end (s .args .self) (s .args .place) (s .pre .0 .placed), s .pre .0 .inside)
+    omega (arith, slot-end (s .args .self) (s .args .place) (s .pre .0 .placed), s .pre .0 .inside)
 
 loop-holds : tie.Need-loop-holds Inv-loop μ-loop
 loop-holds c =
     let a = c .before .before .before .args in
-    (search needs, refl, paste-zero (now (a .store)) (c .room .result) (now (a .message)))
+    (search needs, refl, paste-zero (now (a .store)) (c .slot .result) (now (a .message)))
 
 shared-slice-read-store : tie.Need-shared-slice-read-store Inv-loop μ-loop
 shared-slice-read-store c = omega arith
@@ -56,7 +56,7 @@ loop-again c =
     let a = r .before .before .before .args in (
       omega arith,
       simp length-set (l .inv .1),
-      rw (l .inv .2, add-one) (paste-suc (now (a .store)) (r .room .result) (now (a .message)) (l .i) 0 (omega (arith, in-room r)) (omega arith)),
+      rw (l .inv .2, add-one) (paste-suc (now (a .store)) (r .slot .result) (now (a .message)) (l .i) 0 (omega (arith, in-room r)) (omega arith)),
     )
 
 same-length : tie.Need-same-length Inv-loop μ-loop
@@ -68,12 +68,12 @@ returns c =
     let r = c .before .before in
     let a = r .before .before .before .args in
     let e : l .i ≡ length (now (a .message)) = omega arith in
-    let b : r .room .result + length (now (a .message)) ≤ length (now (a .store)) = in-room r in
+    let b : r .slot .result + length (now (a .message)) ≤ length (now (a .store)) = in-room r in
     rw e at (l .inv .2)
-    ∙ ap (λ (m : List ℕ). take (r .room .result) (now (a .store)) ++ m ++ drop (r .room .result + length (now (a .message)))
+    ∙ ap (λ (m : List ℕ). take (r .slot .result) (now (a .store)) ++ m ++ drop (r .slot .result + length (now (a .message)))
     (now (a .store))) (take-length (now (a .message)))
-    ∙ sym (sets-eq (now (a .message)) (now (a .store)) (r .room .result) b)
-    ∙ ap (λ (k : ℕ). sets (now (a .store)) k (now (a .message))) (r .room .ensures)
+    ∙ sym (sets-eq (now (a .message)) (now (a .store)) (r .slot .result) b)
+    ∙ ap (λ (k : ℕ). sets (now (a .store)) k (now (a .message))) (r .slot .ensures)
 
 pub put-spec : {M : Type 1} → statement M
 put-spec =
@@ -81,7 +81,7 @@ put-spec =
     (tie.spec
     Inv-loop
     μ-loop
-    room-requires
+    slot-requires
     loop-holds
     shared-slice-read-store
     add-store

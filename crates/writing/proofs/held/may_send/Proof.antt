@@ -1,7 +1,7 @@
 use mathlib.Core.Path.{_≡_, sym, ap, _∙_}
 use Rattle.ground.specs.declared.Verdict.the-variants.{Pass}
 use Rattle.ground.specs.Refusal.{verdict}
-use Rattle.relay.specs.Asked.{relayTests}
+use Rattle.relay.specs.RelayTests.{relayChannelTests}
 use Rattle.writing.specs.Send.{ranked}
 use native.Mathlib.Omega.{arith}
 use Rattle.sending.specs.Sending.{heldOf}
@@ -13,11 +13,11 @@ use borrow.Author.Needs.{needs}
 use Rattle.writing.proofs.held.may_send.Statement.{statement}
 use Rattle.writing.proofs.held.may_send.Tie as tie
 
-asked-requires : tie.Need-asked-requires
-asked-requires c κs = search needs
+channel-verdict-requires : tie.Need-channel-verdict-requires
+channel-verdict-requires c κs = search needs
 
-enum-known-first : tie.Need-enum-known-first
-enum-known-first c = search needs
+enum-known-earlier : tie.Need-enum-known-earlier
+enum-known-earlier c = search needs
 
 enum-told : tie.Need-enum-told
 enum-told c = search needs
@@ -26,8 +26,8 @@ of-requires : tie.Need-of-requires
 of-requires c κs = search needs
 
 -- line and channel do not refuse
-asked-first : (c : tie.After-enum-told) → verdict (relayTests (c .before .before .before .args .l) (c .before .before .before .args .channel)) ≡ Pass
-asked-first c = sym (c .before .before .asked .ensures) ∙ c .enum-told .given .1
+asked-first : (c : tie.After-enum-told) → verdict (relayChannelTests (c .before .before .before .args .l) (c .before .before .before .args .channel)) ≡ Pass
+asked-first c = sym (c .before .before .channel-verdict .ensures) ∙ c .enum-told .given .1
 
 -- what the rank finds
 found-is : (c : tie.After-ranked) → ranked (c .before .before .before .before .before .before .args .l) (c .before .before .before .before .before .before .args .channel) (c .before .before .before .before .before .before .args .rank) ≡ c .ranked .result
@@ -62,29 +62,29 @@ add-if1 c = record { fits = omega (arith, c .before .header-length .ensures, ack
 returns : tie.Need-returns
 returns c =
     let a = c .before .before .before .before .args in
-    sym (send-refused (a .l) (a .channel) (a .rank) (a .room) (sym (c .before .before .before .asked .ensures) ∙ c .before .first .given .1))
+    sym (send-refused (a .l) (a .channel) (a .rank) (a .space) (sym (c .before .before .before .channel-verdict .ensures) ∙ c .before .earlier .given .1))
 
 returns-2 : tie.Need-returns-2
 returns-2 c =
     let a = c .before .before .before .before .before .before .before .before .args in
-    sym (send-nothing (a .l) (a .channel) (a .rank) (a .room) (asked-first (c .before .before .before .before .before)) (found-is (c .before .before) ∙ c .enum-told2 .given .1))
+    sym (send-nothing (a .l) (a .channel) (a .rank) (a .space) (asked-first (c .before .before .before .before .before)) (found-is (c .before .before) ∙ c .enum-told2 .given .1))
 
 returns-3 : tie.Need-returns-3
 returns-3 c =
     let a = c .before .before .before .before .before .before .before .before .before .before .before .before .args in
-    sym (send-may (a .l) (a .channel) (a .rank) (a .room) (asked-first (c .before .before .before .before .before .before .before .before .before)) (found-is (c .before .before .before .before .before .before) ∙ c .before .before .before .before .found .given .1) (omega (arith, c .before .before .header-length .ensures, c .if1 .taken)))
+    sym (send-may (a .l) (a .channel) (a .rank) (a .space) (asked-first (c .before .before .before .before .before .before .before .before .before)) (found-is (c .before .before .before .before .before .before) ∙ c .before .before .before .before .found .given .1) (omega (arith, c .before .before .header-length .ensures, c .if1 .taken)))
 
 returns-4 : tie.Need-returns-4
 returns-4 c =
     let a = c .before .before .before .before .before .before .before .before .before .before .before .before .args in
-    sym (send-room (a .l) (a .channel) (a .rank) (a .room) (asked-first (c .before .before .before .before .before .before .before .before .before)) (found-is (c .before .before .before .before .before .before) ∙ c .before .before .before .before .found .given .1) (omega (arith, c .before .before .header-length .ensures, c .if1 .left)))
+    sym (send-room (a .l) (a .channel) (a .rank) (a .space) (asked-first (c .before .before .before .before .before .before .before .before .before)) (found-is (c .before .before .before .before .before .before) ∙ c .before .before .before .before .found .given .1) (omega (arith, c .before .before .header-length .ensures, c .if1 .left)))
 
 pub may-send-spec : {M : Type 1} → statement M
 may-send-spec =
     tie.close
     (tie.spec
-    asked-requires
-    enum-known-first
+    channel-verdict-requires
+    enum-known-earlier
     enum-told
     of-requires
     sending-requires

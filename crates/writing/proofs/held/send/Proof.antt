@@ -5,7 +5,7 @@ use lib.Bits.{bitAnd}
 use mathlib.Core.Path.{_≡_, ap, _∙_}
 use Prim.Native.Nat.{_+_, _-_, _%_, _≤_}
 use Rattle.store.specs.declared.Way.the-variants as way
-use Rattle.store.specs.Store.{roomAt, regionOf}
+use Rattle.store.specs.Store.{slotAt, regionOf}
 use Rattle.writing.proofs.Sends.{send-end, send-owes, send-passes}
 use Rattle.store.specs.declared.Region.{Region}
 use denote.Ref.{now}
@@ -19,20 +19,20 @@ use Rattle.writing.proofs.held.send.Tie as tie
 of-requires : tie.Need-of-requires
 of-requires c κs = search needs
 
-room-requires : tie.Need-room-requires
-room-requires c κs =
+slot-requires : tie.Need-slot-requires
+slot-requires c κs =
     let a = c .before .before .before in
     rw (c .of .ensures) (omega (arith, send-end (a .args .l) (a .pre .0) (a .args .channel) (length (now (a .args .out))) (a .args .h) (a .pre .3) (a .args .i) (a .pre .1)))
 
--- the room begins where it should
-room-is : (c : tie.After-room) → let a = c .before .before .before .before .args in c .room .result ≡ roomAt (regionOf (a .i) way.Sending (a .channel)) (a .h .place)
-room-is c = c .room .ensures ∙ ap (λ (g : Region). roomAt g (c .before .before .before .before .args .h .place)) (c .before .of .ensures)
+-- the slot begins where it should
+slot-is : (c : tie.After-slot) → let a = c .before .before .before .before .args in c .slot .result ≡ slotAt (regionOf (a .i) way.Sending (a .channel)) (a .h .place)
+slot-is c = c .slot .ensures ∙ ap (λ (g : Region). slotAt g (c .before .before .before .before .args .h .place)) (c .before .of .ensures)
 
 -- and the message in it ends in the store
-end-in : (c : tie.After-room) → c .room .result + c .before .before .before .before .args .h .size ≤ 42240
+end-in : (c : tie.After-slot) → c .slot .result + c .before .before .before .before .args .h .size ≤ 42240
 end-in c =
     let a = c .before .before .before .before in
-    rw (room-is c) (send-end (a .args .l) (a .pre .0) (a .args .channel) (length (now (a .args .out))) (a .args .h) (a .pre .3) (a .args .i) (a .pre .1))
+    rw (slot-is c) (send-end (a .args .l) (a .pre .0) (a .args .channel) (length (now (a .args .out))) (a .args .h) (a .pre .3) (a .args .i) (a .pre .1))
 
 cast-end : tie.Need-cast-end
 cast-end c = search needs
@@ -74,9 +74,9 @@ unfolding heldPacket
 returns c =
     let a = c .before .before .before .before .before .before .before .before .before .before .before .before .before .before in
     let h = a .args .h in
-    let n : c .before .before .before .before .before .before .before .before .before .before .room .result + h .size - c .before .before .before .before .before .before .before .before .before .before .room .result ≡ h .size = omega arith in
+    let n : c .before .before .before .before .before .before .before .before .before .before .slot .result + h .size - c .before .before .before .before .before .before .before .before .before .before .slot .result ≡ h .size = omega arith in
     let m : bitAnd (h .number) 16383 ≡ h .number % modulus = and-mask (h .number) 14 in
-    let w = rw (c .before .before .before .before .before .before .before .head-for .ensures, m, c .before .before .before .before .before .before .acks-for .ensures, n, room-is (c .before .before .before .before .before .before .before .before .before .before)) at (c .before .before .before .write-packet .ensures) in
+    let w = rw (c .before .before .before .before .before .before .before .head-for .ensures, m, c .before .before .before .before .before .before .acks-for .ensures, n, slot-is (c .before .before .before .before .before .before .before .before .before .before)) at (c .before .before .before .write-packet .ensures) in
     let p = written-out w (send-passes (a .args .l) (a .pre .0) (a .args .channel) (length (now (a .args .out))) h (a .pre .3) (a .args .i) (a .pre .1) (now (a .args .store)) (a .pre .2)) in
     (c .wrote-line .ensures, p .0, p .1)
 
@@ -85,7 +85,7 @@ send-spec =
     tie.close
     (tie.spec
     of-requires
-    room-requires
+    slot-requires
     cast-end
     add-end
     cast-head-for

@@ -1,0 +1,135 @@
+-- One line among the lines, and one identifier among others: what changes where a line is put anew.
+-- Assumes nothing.
+use Prim.Native.Nat.{ℕ, zero, suc, _<_}
+use mathlib.Core.Path.{_≡_, refl, sym, ap, ap₂, _∙_}
+use mathlib.Core.Bool.{Bool, true, false, not, _&&_, _||_}
+use mathlib.Core.List.{List, [], _∷_, _++_, append-assoc}
+use native.Mathlib.Omega.{arith}
+use lib.Dec.{eqb}
+use lib.ListN.{length, getD, set, take, drop}
+use lib.Seq.{set-split}
+use borrow.Author.Tests.{eq-eqb}
+use Rattle.ground.specs.Pick.{pick}
+use Rattle.ground.proofs.Picks.{both-true}
+use Rattle.ground.proofs.Either.{or-true}
+use Rattle.owed.specs.Owed.{member, noTwice}
+use Rattle.owed.proofs.Lists.{eqb-turn}
+use Rattle.line.specs.Line.{closedLine}
+use Rattle.line.specs.Fit.{lineFits}
+use Rattle.line.specs.declared.Line.{Line}
+use Rattle.line.proofs.Keeps.{closed-fits}
+use Rattle.book.specs.Book.{openIn, linesFit, ownerFrom}
+use Rattle.book.specs.declared.Owner.{Owner}
+use Rattle.book.specs.declared.Owner.the-variants.{At}
+
+-- What holds of each line, and of the one put anew, holds of each line then.
+pub set-by {ℓ} : {A : Type 0} (P : A → Type ℓ) (ls : List A) (i : ℕ) (l d : A) → P l → ((j : ℕ) → P (getD ls j d)) → (j : ℕ) → P (getD (set ls i l) j d)
+set-by P [] i l d p f j = f j
+set-by P (x ∷ ls) zero l d p f zero = p
+set-by P (x ∷ ls) zero l d p f (suc j) = f (suc j)
+set-by P (x ∷ ls) (suc i) l d p f zero = f zero
+set-by P (x ∷ ls) (suc i) l d p f (suc j) = set-by P ls i l d p (λ k. f (suc k)) j
+
+-- A line put anew that fits.
+pub lines-set : (ls : List Line) (i : ℕ) (l : Line) → linesFit ls ≡ true → lineFits l ≡ true → linesFit (set ls i l) ≡ true
+unfolding linesFit
+lines-set [] i l f g = f
+lines-set (x ∷ ls) zero l f g = rw g (both-true (lineFits x) (linesFit ls) f .1)
+lines-set (x ∷ ls) (suc i) l f g =
+    let b = both-true (lineFits x) (linesFit ls) f in
+    rw (b .0) (lines-set ls i l (b .1) g)
+
+-- A line put anew that is open or closed as it was, with its identifier.
+pub open-same : (ls : List Line) (i : ℕ) (l : Line) → l .opened ≡ getD ls i closedLine .opened → l .identifier ≡ getD ls i closedLine .identifier → openIn (set ls i l) ≡ openIn ls
+unfolding openIn
+open-same [] i l o e = refl
+open-same (x ∷ ls) zero l o e = ap₂ (λ (t : Bool) (y : ℕ). pick t (y ∷ openIn ls) (openIn ls)) o e
+open-same (x ∷ ls) (suc i) l o e = ap (λ (xs : List ℕ). pick (x .opened) (x .identifier ∷ xs) xs) (open-same ls i l o e)
+
+-- A closed line put in a closed line's place.
+module _ (l : Line) (c : l .opened ≡ false) where
+  pub open-closed : (ls : List Line) (i : ℕ) → getD ls i closedLine .opened ≡ false → openIn (set ls i l) ≡ openIn ls
+  unfolding openIn
+  open-closed [] i o = refl
+  open-closed (x ∷ ls) zero o = rw (c, o)
+  open-closed (x ∷ ls) (suc i) o = ap (λ (xs : List ℕ). pick (x .opened) (x .identifier ∷ xs) xs) (open-closed ls i o)
+
+  pub lines-closed : (ls : List Line) (i : ℕ) → getD ls i closedLine .opened ≡ false → linesFit (set ls i l) ≡ linesFit ls
+  unfolding linesFit
+  lines-closed [] i o = refl
+  lines-closed (x ∷ ls) zero o = rw (closed-fits l c, closed-fits x o)
+  lines-closed (x ∷ ls) (suc i) o = ap (λ (t : Bool). lineFits x && t) (lines-closed ls i o)
+
+  pub whose-closed : (k : ℕ) (ls : List Line) (i x : ℕ) → getD ls i closedLine .opened ≡ false → ownerFrom k (set ls i l) x ≡ ownerFrom k ls x
+  unfolding ownerFrom
+  whose-closed k [] i x o = refl
+  whose-closed k (y ∷ ls) zero x o = rw (c, o)
+  whose-closed k (y ∷ ls) (suc i) x o = ap (λ (w : Owner). pick (y .opened && eqb (y .identifier) x) (At k) w) (whose-closed (suc k) ls i x o)
+
+-- An open line's identifier is among those that are open.
+pub open-member : (ls : List Line) (i : ℕ) → i < length ls → getD ls i closedLine .opened ≡ true → member (getD ls i closedLine .identifier) (openIn ls) ≡ true
+unfolding openIn member
+open-member [] i h o = absurd (omega arith)
+open-member (x ∷ ls) zero h o = rw (o, eq-eqb (x .identifier) (x .identifier) refl)
+open-member (x ∷ ls) (suc i) h o = go (x .opened) (open-member ls i (omega arith) o)
+  where
+    y : ℕ
+    y = getD ls i closedLine .identifier
+
+    go : (t : Bool) → member y (openIn ls) ≡ true → member y (pick t (x .identifier ∷ openIn ls) (openIn ls)) ≡ true
+    go true e = rw e (or-true (eqb (x .identifier) y))
+    go false e = e
+
+-- The open identifiers around a line.
+open-append : (a b : List Line) → openIn (a ++ b) ≡ openIn a ++ openIn b
+unfolding openIn
+open-append [] b = refl
+open-append (l ∷ a) b = go (l .opened) (open-append a b)
+  where
+    go : (t : Bool) → openIn (a ++ b) ≡ openIn a ++ openIn b
+        → pick t (l .identifier ∷ openIn (a ++ b)) (openIn (a ++ b)) ≡ pick t (l .identifier ∷ openIn a) (openIn a) ++ openIn b
+    go true e = ap (λ (xs : List ℕ). l .identifier ∷ xs) e
+    go false e = e
+
+open-set : (ls : List Line) (i : ℕ) (l : Line) → i < length ls
+    → openIn (set ls i l) ≡ openIn (take i ls) ++ pick (l .opened) (l .identifier ∷ openIn (drop (suc i) ls)) (openIn (drop (suc i) ls))
+unfolding openIn
+open-set ls i l h = ap openIn (set-split ls i l h) ∙ open-append (take i ls) (l ∷ drop (suc i) ls)
+
+-- An identifier between others: none is there twice if it is not among the others, and none of those is.
+member-insert : (y x : ℕ) (a c : List ℕ) → member y (a ++ (x ∷ c)) ≡ (eqb x y || member y (a ++ c))
+unfolding member
+member-insert y x [] c = refl
+member-insert y x (z ∷ a) c = ap (λ (t : Bool). eqb z y || t) (member-insert y x a c) ∙ turn (eqb z y) (eqb x y) (member y (a ++ c))
+  where
+    turn : (p q r : Bool) → (p || (q || r)) ≡ (q || (p || r))
+    turn true true r = refl
+    turn true false r = refl
+    turn false q r = refl
+
+once-insert : (x : ℕ) (a c : List ℕ) → noTwice (a ++ (x ∷ c)) ≡ (not (member x (a ++ c)) && noTwice (a ++ c))
+unfolding noTwice member
+once-insert x [] c = refl
+once-insert x (z ∷ a) c =
+    ap₂ (λ (p q : Bool). not p && q) (member-insert z x a c ∙ ap (λ (t : Bool). t || member z (a ++ c)) (eqb-turn x z)) (once-insert x a c)
+    ∙ turn (eqb z x) (member z (a ++ c)) (member x (a ++ c)) (noTwice (a ++ c))
+  where
+    turn : (p q r s : Bool) → (not (p || q) && (not r && s)) ≡ (not (p || r) && (not q && s))
+    turn true q r s = refl
+    turn false true true s = refl
+    turn false true false s = refl
+    turn false false r s = refl
+
+-- an open line among the lines, and those that rest: its identifier, and all others
+pub once-open : (ls : List Line) (r : List ℕ) (i : ℕ) (l : Line) → i < length ls → l .opened ≡ true
+    → noTwice (openIn (set ls i l) ++ r) ≡ (not (member (l .identifier) (openIn (set ls i closedLine) ++ r)) && noTwice (openIn (set ls i closedLine) ++ r))
+once-open ls r i l h o =
+    let a = openIn (take i ls) in
+    let c = openIn (drop (suc i) ls) in
+    rw (open-set ls i l h, open-set ls i closedLine h, o, append-assoc a (l .identifier ∷ c) r, append-assoc a c r) (once-insert (l .identifier) a (c ++ r))
+
+-- what is there once is so without the first of the rest
+pub once-less : (k : ℕ) (a m : List ℕ) → noTwice (a ++ m) ≡ true → noTwice (a ++ drop k m) ≡ true
+once-less zero a m e = e
+once-less (suc k) a [] e = e
+once-less (suc k) a (x ∷ m) e = once-less k a m (both-true (not (member x (a ++ m))) (noTwice (a ++ m)) (sym (once-insert x a m) ∙ e) .1)

@@ -1,0 +1,79 @@
+-- What a call does, once its verdict is known.
+-- Assumes nothing.
+use Prim.Native.Nat.{ℕ}
+use mathlib.Core.Path.{_≡_, refl, sym, ap, _∙_}
+use mathlib.Core.List.{List, [], _∷_}
+use lib.ListN.{length}
+use lib.Seq.{set-getD}
+use Rattle.ground.specs.Refusal.{verdict, settle}
+use Rattle.ground.specs.Answer.{Answer, accepted, refused}
+use Rattle.ground.specs.declared.Refusal.{Refusal}
+use Rattle.ground.specs.declared.Verdict.{Verdict}
+use Rattle.ground.specs.declared.Verdict.the-variants.{Pass, Refuse}
+use Rattle.ground.proofs.Verdicts.{verdict-on}
+use Rattle.mode.specs.Acts.{Act, outcome}
+use Rattle.mode.specs.Acts as act
+use Rattle.mode.specs.Indication.{hearStep}
+use Rattle.mode.specs.Request.{askStep}
+use Rattle.mode.specs.Recovery.{tickStep}
+use Rattle.mode.proofs.Tries.{answer-says}
+use Rattle.mode.specs.declared.Modes.{Modes}
+use Rattle.mode.specs.declared.Channels.the-variants.{Stay}
+use Rattle.line.specs.Line.{closedLine}
+use Rattle.line.specs.Mode.{steppedTo}
+use Rattle.book.specs.Book.{lineOf, withLine}
+use Rattle.book.specs.declared.Book.{Book}
+use Rattle.calls.specs.Call.{Call}
+use Rattle.calls.specs.Call as call
+use Rattle.calls.specs.Order.{tests, fitBook, lineNumber, isOpen, actTests, modeTests, lineFor}
+use Rattle.calls.specs.Result.{CallResult, resultWith, resultOf, acceptedResult, effect}
+
+module _ (c : Call) (b : Book) (store out : List ℕ) where
+  abbrev its : Verdict
+  its = verdict (tests c b (length store) (length out))
+
+  -- "Each refusal returns its number alone and changes neither book nor any octet"
+  pub did-refused : {r : Refusal} → its ≡ Refuse r → resultOf c b store out ≡ resultWith (refused r) b store out
+  unfolding resultOf
+  did-refused e = ap (λ (v : Verdict). settle v (λ r. resultWith (refused r) b store out) (acceptedResult c b store out)) e
+
+  pub result-accepted : its ≡ Pass → resultOf c b store out ≡ acceptedResult c b store out
+  unfolding resultOf
+  result-accepted e = ap (λ (v : Verdict). settle v (λ r. resultWith (refused r) b store out) (acceptedResult c b store out)) e
+
+-- What a mode call says by its verdict: a refusal and nothing changed, or its values.
+pub record Settles (m : Modes) (a : Act) (v : Verdict) : Type 0 where
+  pub taken : v ≡ Pass → outcome m a .said ≡ accepted (outcome m a .said .values)
+  pub said : (r : Refusal) → v ≡ Refuse r → outcome m a .said ≡ refused r
+  pub modes : (r : Refusal) → v ≡ Refuse r → outcome m a .modes ≡ m
+  pub channels : (r : Refusal) → v ≡ Refuse r → outcome m a .channels ≡ Stay
+
+pub settles : (m : Modes) (a : Act) → Settles m a (verdict (actTests m a))
+unfolding hearStep askStep tickStep
+settles m (act.hear k time) = record { taken = λ e. rw e; said = λ r e. rw e; modes = λ r e. rw e; channels = λ r e. rw e }
+settles m (act.ask k time) = record { taken = λ e. rw e; said = λ r e. rw e; modes = λ r e. rw e; channels = λ r e. rw e }
+settles m (act.tick time) = record { taken = λ e. rw (e, answer-says m time); said = λ r e. rw e; modes = λ r e. rw e; channels = λ r e. rw e }
+
+-- a line put back as it was leaves the book as it was
+pub same-line : (b : Book) (i : ℕ) → withLine b i (lineOf b i) ≡ b
+same-line b i = λ t. record { lines = set-getD (b .lines) i closedLine t; resting = b .resting; rested = b .rested }
+
+-- a mode call, once the line is known to be there: the outcome of its modes, whatever that is, is what the call does
+module _ (b : Book) (i : ℕ) (a : Act) (store out : List ℕ) (there : verdict (fitBook b ∷ lineNumber i ∷ isOpen (lineOf b i) ∷ []) ≡ Pass) where
+  abbrev m : Modes
+  m = lineOf b i .modes
+
+  its-modes : verdict (tests (call.mode i a) b (length store) (length out)) ≡ verdict (actTests m a)
+  unfolding tests modeTests
+  its-modes = verdict-on (fitBook b ∷ lineNumber i ∷ isOpen (lineOf b i) ∷ []) (actTests m a) there
+
+  abbrev after : CallResult
+  after = let o = outcome m a in resultWith (o .said) (withLine b i (steppedTo (lineOf b i) (o .modes) (o .channels))) store out
+
+  pub moved-did : after ≡ resultOf (call.mode i a) b store out
+  unfolding acceptedResult effect lineFor steppedTo
+  moved-did = go (verdict (actTests m a)) refl
+    where
+      go : (v : Verdict) → verdict (actTests m a) ≡ v → after ≡ resultOf (call.mode i a) b store out
+      go Pass e = ap (λ (s : Answer). resultWith s (withLine b i (steppedTo (lineOf b i) (outcome m a .modes) (outcome m a .channels))) store out) (settles m a .taken e) ∙ sym (result-accepted (call.mode i a) b store out (its-modes ∙ e))
+      go (Refuse r) e = (λ t. resultWith (settles m a .said r e t) (withLine b i (steppedTo (lineOf b i) (settles m a .modes r e t) (settles m a .channels r e t))) store out) ∙ ap (λ (k : Book). resultWith (refused r) k store out) (same-line b i) ∙ sym (did-refused (call.mode i a) b store out (its-modes ∙ e))

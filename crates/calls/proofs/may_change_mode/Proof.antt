@@ -1,0 +1,42 @@
+use Rattle.calls.proofs.FirstTests.{on-line}
+use Rattle.calls.specs.Order.{fitBook, lineNumber, isOpen}
+use Rattle.book.specs.Book.{lineOf}
+use Rattle.ground.proofs.Verdicts.{verdict-on, verdict-stop}
+use mathlib.Core.List.{[], _∷_}
+use mathlib.Core.Path.{sym, _∙_}
+use borrow.Author.Needs.{needs}
+use Rattle.calls.proofs.may_change_mode.Statement.{statement}
+use Rattle.calls.proofs.may_change_mode.Tie as tie
+
+line-verdict-requires : tie.Need-line-verdict-requires
+line-verdict-requires c κs = search needs
+
+enum-known-earlier : tie.Need-enum-known-earlier
+enum-known-earlier c = search needs
+
+enum-told : tie.Need-enum-told
+enum-told c = search needs
+
+line-requires : tie.Need-line-requires
+line-requires c κs = on-line (c .before .before .before .args .book) (c .before .before .before .args .line) (sym (c .before .before .line-verdict .ensures) ∙ c .enum-told .given .1) .number
+
+returns : tie.Need-returns
+returns c = sym (verdict-stop (fitBook (c .before .before .before .before .args .book) ∷ lineNumber (c .before .before .before .before .args .line) ∷ []) (isOpen (lineOf (c .before .before .before .before .args .book) (c .before .before .before .before .args .line)) ∷ []) (sym (c .before .before .before .line-verdict .ensures) ∙ c .before .earlier .given .1))
+
+returns-2 : tie.Need-returns-2
+returns-2 c = sym (verdict-on (fitBook (c .before .before .before .before .before .args .book) ∷ lineNumber (c .before .before .before .before .before .args .line) ∷ []) (isOpen (lineOf (c .before .before .before .before .before .args .book) (c .before .before .before .before .before .args .line)) ∷ []) (sym (c .before .before .before .before .line-verdict .ensures) ∙ c .before .before .enum-told .given .1) ∙ simp (← c .before .line .ensures, c .if1 .taken))
+
+returns-3 : tie.Need-returns-3
+returns-3 c = sym (verdict-on (fitBook (c .before .before .before .before .before .args .book) ∷ lineNumber (c .before .before .before .before .before .args .line) ∷ []) (isOpen (lineOf (c .before .before .before .before .before .args .book) (c .before .before .before .before .before .args .line)) ∷ []) (sym (c .before .before .before .before .line-verdict .ensures) ∙ c .before .before .enum-told .given .1) ∙ simp (← c .before .line .ensures, c .if1 .left))
+
+pub may-change-mode-spec : {M : Type 1} → statement M
+may-change-mode-spec =
+    tie.close
+    (tie.spec
+    line-verdict-requires
+    enum-known-earlier
+    enum-told
+    line-requires
+    returns
+    returns-2
+    returns-3)

@@ -1,0 +1,30 @@
+use Rattle.calls.specs.Order.{fitBook, roomy, lineNumber}
+use Rattle.ground.proofs.Verdicts.{verdict-on, verdict-stop}
+use mathlib.Core.List.{[], _∷_}
+use mathlib.Core.Path.{sym, _∙_}
+use borrow.Author.Tests.{le-leb, lt-leb}
+use borrow.Author.Needs.{needs}
+use Rattle.calls.proofs.store_line_verdict.Statement.{statement}
+use Rattle.calls.proofs.store_line_verdict.Tie as tie
+
+store-verdict-requires : tie.Need-store-verdict-requires
+store-verdict-requires c κs = search needs
+
+enum-known-earlier : tie.Need-enum-known-earlier
+enum-known-earlier c = search needs
+
+enum-told : tie.Need-enum-told
+enum-told c = search needs
+
+returns : tie.Need-returns
+returns c = sym (verdict-stop (fitBook (c .before .before .before .before .args .book) ∷ roomy (c .before .before .before .before .args .store) ∷ []) (lineNumber (c .before .before .before .before .args .line) ∷ []) (sym (c .before .before .before .store-verdict .ensures) ∙ c .before .earlier .given .1))
+
+returns-2 : tie.Need-returns-2
+returns-2 c = sym (verdict-on (fitBook (c .before .before .before .before .args .book) ∷ roomy (c .before .before .before .before .args .store) ∷ []) (lineNumber (c .before .before .before .before .args .line) ∷ []) (sym (c .before .before .before .store-verdict .ensures) ∙ c .before .enum-told .given .1) ∙ simp (le-leb _ _ (c .if1 .taken)))
+
+returns-3 : tie.Need-returns-3
+returns-3 c = sym (verdict-on (fitBook (c .before .before .before .before .args .book) ∷ roomy (c .before .before .before .before .args .store) ∷ []) (lineNumber (c .before .before .before .before .args .line) ∷ []) (sym (c .before .before .before .store-verdict .ensures) ∙ c .before .enum-told .given .1) ∙ simp (lt-leb _ _ (c .if1 .left)))
+
+pub store-line-verdict-spec : {M : Type 1} → statement M
+store-line-verdict-spec =
+    tie.close (tie.spec store-verdict-requires enum-known-earlier enum-told returns returns-2 returns-3)

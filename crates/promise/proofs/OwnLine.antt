@@ -1,0 +1,59 @@
+-- What an accepted call leaves of the line that it is for, and what it gives; and when it is accepted.
+-- Assumes nothing.
+use Prim.Native.Nat.{ℕ, _<_}
+use mathlib.Core.Path.{_≡_, subst, _∙_}
+use mathlib.Core.Bool.{true, false}
+use mathlib.Core.List.{List, [], _∷_, _++_}
+use native.Mathlib.Omega.{arith}
+use lib.ListN.{length, take, drop, getD}
+use lib.Seq.{take-append-seam}
+use borrow.Author.Tests.{eqb-true, eqb-false, eq-eqb}
+use Rattle.ground.specs.Refusal.{verdict}
+use Rattle.ground.specs.declared.Verdict.the-variants.{Pass}
+use Rattle.book.specs.Book.{lineOf}
+use Rattle.calls.specs.Call.{Call}
+use Rattle.calls.specs.Order.{tests, lineFor}
+use Rattle.calls.specs.Result.{effect}
+use Rattle.laws.proofs.OwnLine.{accepted-passes, passes-accepted, own-line, own-store, own-out, own-values}
+use Rattle.calls.proofs.Refusing.{Unchanged, refusal-changes-nothing}
+use Rattle.promise.specs.Past.{Past}
+use Rattle.promise.specs.Run.{Gateway, accepts, given, lineAt}
+use Rattle.promise.specs.Ours.{does, after}
+use Rattle.promise.proofs.Phases.{Sound}
+
+-- all its tests hold
+abbrev pub Passes : Gateway → Call → List ℕ → Type 0
+Passes g c out = verdict (tests c (g .book) (length (g .store)) (length out)) ≡ Pass
+
+pub call-passes : (g : Gateway) (c : Call) (out : List ℕ) → accepts (does g c out) ≡ true → Passes g c out
+call-passes g c out e = accepted-passes c (g .book) (g .store) out (eqb-true _ _ e)
+
+pub call-accepted : (g : Gateway) (c : Call) (out : List ℕ) → Passes g c out → accepts (does g c out) ≡ true
+call-accepted g c out e = eq-eqb _ _ (passes-accepted c (g .book) (g .store) out e)
+
+pub call-refused : (g : Gateway) (c : Call) (out : List ℕ) → accepts (does g c out) ≡ false → Unchanged (g .book) (g .store) out (does g c out)
+call-refused g c out e =
+    let n : does g c out .answer .number ≡ 0 → ⊥ = eqb-false _ _ e in
+    refusal-changes-nothing c (g .book) (g .store) out (positive (does g c out .answer .number) n)
+  where
+    positive : (n : ℕ) → (n ≡ 0 → ⊥) → 0 < n
+    positive n h = omega (arith, h)
+
+module _ {i identifier kind : ℕ} {g : Gateway} {p : Past} (s : Sound i identifier kind g p) (c : Call) (out : List ℕ) (mine : lineFor c (g .book) ≡ i) (pass : Passes g c out) where
+  pub line-left : lineAt (after g c out) i ≡ effect c i (lineAt g i) (g .store) out .line
+  line-left =
+      subst (λ (k : ℕ). lineOf (does g c out .book) k ≡ effect c k (lineOf (g .book) k) (g .store) out .line) mine
+      (own-line c (g .book) (g .store) out pass (s .shaped))
+
+  pub store-left : after g c out .store ≡ effect c i (lineAt g i) (g .store) out .store
+  store-left =
+      subst (λ (k : ℕ). does g c out .store ≡ effect c k (lineOf (g .book) k) (g .store) out .store) mine
+      (own-store c (g .book) (g .store) out pass)
+
+  -- a call that writes gives the octets that it put there
+  pub octets-given : (octets : List ℕ) → effect c i (lineAt g i) (g .store) out .values ≡ length octets ∷ []
+      → effect c i (lineAt g i) (g .store) out .out ≡ octets ++ drop (length octets) out → given (does g c out) ≡ octets
+  octets-given octets v o =
+      let values = subst (λ (k : ℕ). does g c out .answer .values ≡ effect c k (lineOf (g .book) k) (g .store) out .values) mine (own-values c (g .book) (g .store) out pass) ∙ v in
+      let there = subst (λ (k : ℕ). does g c out .out ≡ effect c k (lineOf (g .book) k) (g .store) out .out) mine (own-out c (g .book) (g .store) out pass) ∙ o in
+      (λ t. take (getD (values t) 0 0) (there t)) ∙ take-append-seam octets (drop (length octets) out)

@@ -1,0 +1,104 @@
+-- A packet that the peer wrote arrives: it passes every test of its line, and its base, acknowledgements and payload keep the invariant.
+-- Assumes nothing.
+use Prim.Native.Nat.{ℕ, _+_, _≤_, _<_}
+use mathlib.Core.Path.{_≡_, sym, ap, subst, transport, _∙_}
+use mathlib.Core.List.{List, [], _∷_, _++_}
+use native.Mathlib.Omega.{arith}
+use lib.ListN.{length}
+use Rattle.ground.specs.Refusal.{verdict}
+use Rattle.ground.specs.declared.Verdict.the-variants.{Pass}
+use Rattle.packet.specs.Read.{headAt, payloadOf, headerLength, headTests}
+use Rattle.flow.specs.Flow.{Message, Full}
+use Rattle.flow.proofs.Flows.{data-full}
+use Rattle.line.specs.declared.Line.{Line}
+use Rattle.mode.specs.Given.{modem}
+use Rattle.arriving.specs.Effect.{Relaying, heardLine, ackedAll, storedLine, storedStore}
+use Rattle.arriving.specs.Arrive.{arriveTests, newsLine, arrivedLine, arrivedStore}
+use Rattle.arriving.proofs.Effects.{heard-relaying}
+use Rattle.arriving.proofs.Arrivals.{news-relaying, payload-length, arrive-passed, arrive-size, news-all, store-all, payload-line, payload-store}
+use Rattle.promise.specs.Past.{Mark, Packet, enterAll, heardPast}
+use Rattle.promise.specs.Run.{Each, none, also, Recent, bound, Honest}
+use Rattle.promise.proofs.Lists.{each-at}
+use Rattle.promise.proofs.Ends.{End, Carries, nothing, message, Says, Joined}
+use Rattle.promise.proofs.NewsArrives.{withLine, base-joined, acks-joined}
+use Rattle.promise.proofs.PayloadArrives.{storing-joined}
+
+full-length : (x : Message) → Full x → 0 < length x
+full-length [] v = absurd v
+full-length (a ∷ x) v = omega arith
+
+-- what the peer wrote for this line is refused by none of the line's tests
+pub said-passes : (f : End) (l : Line) (k : Packet) → Says f k → f .line .kind ≡ l .kind → l .modes .local ≡ modem
+    → (verdict (headTests (k .octets)) ≡ Pass) × (verdict (arriveTests l (k .octets)) ≡ Pass)
+said-passes f l k says same inside = (says .plain, sym (arrive-passed l (k .octets) (says .typed ∙ same) inside (says .listed) (says .sized)))
+
+-- the end that packet k has arrived at, with octets s
+abbrev pub afterArrival : End → Packet → List ℕ → End
+afterArrival e k s =
+    record {
+      line = arrivedLine (e .line) s;
+      i = e .i;
+      store = arrivedStore (e .line) (e .i) s (e .store);
+      past = heardPast (e .past) k;
+    }
+
+module _ {e f : End} (relaying : Relaying (e .line)) (j : Joined e f) (k : Packet) (says : Says f k) (pass : verdict (arriveTests (e .line) (k .octets)) ≡ Pass) where
+  abbrev l : Line
+  l = e .line
+
+  abbrev s : List ℕ
+  s = k .octets
+
+  abbrev channel : ℕ
+  channel = headAt s .channel
+
+  -- "base, acknowledgements as listed"
+  news-joined : Each (Recent (e .past .taken)) (k .names) → Each (Recent (e .past .taken)) (k .acks) → Joined (withLine e (newsLine l s)) f
+  unfolding newsLine
+  news-joined a b =
+      subst (λ (ws : List ℕ). Joined (withLine e (ackedAll (heardLine l channel (headAt s .base)) ws)) f) (sym (says .words))
+      (acks-joined (heard-relaying l relaying channel (headAt s .base)) (base-joined relaying j channel (headAt s .base) (says .names) a) (says .acks) b)
+
+  -- "payload"
+  abbrev heard : List Mark → End
+  heard ms =
+      record {
+        line = arrivedLine l s;
+        i = e .i;
+        store = arrivedStore l (e .i) s (e .store);
+        past = record { opened = e .past .opened; taken = e .past .taken; handed = e .past .handed; wrote = e .past .wrote; owes = enterAll (e .past .owes) ms; came = ms ++ e .past .came };
+      }
+
+  payload-joined : Joined (withLine e (newsLine l s)) f → (ms : List Mark) → Carries (f .past .taken) channel (headAt s .number) (payloadOf s) ms
+      → Each (Recent (f .past .taken)) ms → Joined (heard ms) f
+  unfolding enterAll
+  payload-joined n [] (nothing q) c =
+      let short : length s ≤ headerLength s = omega (arith, payload-length s, ap length q) in
+      transport (λ t. Joined (record { line = news-all l s short t; i = e .i; store = store-all l s short (e .i) (e .store) t; past = e .past }) f) n
+  payload-joined n (m ∷ []) (message b v q d) (also c none) =
+      let some : 0 < length (payloadOf s) = full-length (payloadOf s) (data-full (n .back channel v) d) in
+      let there : headerLength s < length s = omega (arith, payload-length s, some) in
+      let lately : length (f .past .taken channel) ≤ b + bound = omega (arith, c) in
+      let line = ap (λ (x : ℕ). storedLine (newsLine l s) channel x (length (payloadOf s))) (sym q) ∙ payload-line l s there in
+      let store = ap (λ (x : ℕ). storedStore (newsLine l s) (e .i) channel x (payloadOf s) (e .store)) (sym q) ∙ payload-store l s there (e .i) (e .store) in
+      transport (λ t. Joined (record { line = line t; i = e .i; store = store t; past = heard (m ∷ []) .past }) f)
+      (storing-joined (news-relaying l relaying s) n channel v (payloadOf s) (arrive-size l s pass) b d lately some)
+
+  -- "An arriving packet takes effect in this order"
+  pub heard-joined : Each (Recent (f .past .taken)) (k .carries) → Each (Recent (e .past .taken)) (k .names) → Each (Recent (e .past .taken)) (k .acks)
+      → Joined (afterArrival e k (k .octets)) f
+  heard-joined a b c = payload-joined (news-joined b c) (k .carries) (says .carries) a
+
+-- what is assumed of an arriving packet gives all of it
+pub arrival-joined : {e f : End} (s : List ℕ) (k : Packet) → Honest (e .past) (f .past) s k → Relaying (e .line) → verdict (arriveTests (e .line) s) ≡ Pass → Joined e f
+    → Joined (afterArrival e k s) f
+arrival-joined {e} {f} s k h relaying pass j =
+    subst (λ (o : List ℕ). Joined (afterArrival e k o) f) (h .same)
+    (heard-joined relaying j k (each-at (h .written) (j .yours .said)) (rw (h .same) pass) (h .carries) (h .names) (h .acks))
+
+-- and none of the tests refuses it where the two have one payload type
+pub arrival-passes : {e f : End} (s : List ℕ) (k : Packet) → Honest (e .past) (f .past) s k → e .line .modes .local ≡ modem → f .line .kind ≡ e .line .kind → Joined e f
+    → (verdict (headTests s) ≡ Pass) × (verdict (arriveTests (e .line) s) ≡ Pass)
+arrival-passes {e} {f} s k h inside same j =
+    subst (λ (o : List ℕ). (verdict (headTests o) ≡ Pass) × (verdict (arriveTests (e .line) o) ≡ Pass)) (h .same)
+    (said-passes f (e .line) k (each-at (h .written) (j .yours .said)) same inside)

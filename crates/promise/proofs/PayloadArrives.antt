@@ -1,0 +1,145 @@
+-- A message comes, and is stored, is there already or is old: in all three cases the invariant is kept, and the message has come.
+-- Assumes nothing.
+use Prim.Native.Nat.{ℕ, _+_, _%_, _≤_, _<_}
+use mathlib.Core.Path.{_≡_, refl, sym, ap, subst, _∙_}
+use mathlib.Core.Bool.{true}
+use mathlib.Core.List.{List, _∷_}
+use mathlib.Core.Logic.{_≢_}
+use native.Mathlib.Omega.{arith}
+use lib.Dec.{eqb}
+use lib.ListN.{length}
+use borrow.Author.Tests.{lt-ltb, le-leb}
+use Rattle.ground.proofs.Picks.{pick-by}
+use Rattle.field.specs.Word.{wordOf}
+use Rattle.channel.specs.Channel.{modulus, windowOf}
+use Rattle.channel.specs.Sizes.{sizeFits}
+use Rattle.receiving.specs.Receiving.{arrivalOf, arrivalPlace, arrivedAs}
+use Rattle.receiving.specs.declared.Receiving.{Receiving}
+use Rattle.receiving.specs.declared.Arrival.{Arrival}
+use Rattle.receiving.specs.declared.Arrival.the-variants.{Stored, There, Old}
+use Rattle.flow.proofs.Keeps.{receiving-sized}
+use Rattle.flow.specs.Flow.{Message, Receives, PayloadMove, Data, Grows, Have}
+use Rattle.flow.specs.View.{receives, PutAs}
+use Rattle.flow.proofs.Fields.{arrival-field}
+use Rattle.flow.proofs.Flows.{data-full, arrived-grows, arrived-have, arrive-flow}
+use Rattle.flow.proofs.Moves.{arrived-moves}
+use Rattle.owed.specs.Owed.{owedOf, entered, enters}
+use Rattle.owed.proofs.Steps.{entered-list}
+use Rattle.line.specs.Fit.{largest}
+use Rattle.line.specs.Line.{sendingOf, receivingOf}
+use Rattle.line.specs.declared.Line.{Line}
+use Rattle.line.proofs.Shape.{receiving-long}
+use Rattle.store.specs.Store.{regionOf}
+use Rattle.store.specs.declared.Way.the-variants as way
+use Rattle.store.proofs.Slots.{Owner, Served}
+use Rattle.relay.specs.RelayTests.{reliable}
+use Rattle.arriving.specs.Effect.{Relaying, owingLine, arrivalAt, storedLine, putAs, storedStore}
+use Rattle.channel.proofs.Windows.{window-narrow}
+use Rattle.arriving.proofs.Effects.{stored-near, place-near}
+use Rattle.arriving.proofs.StepsStay.{stored-stays}
+use Rattle.arriving.proofs.Keeps.{stored-relaying, stored-shaped, stored-store-length}
+use Rattle.promise.specs.Past.{enter}
+use Rattle.promise.specs.Run.{also, bound}
+use Rattle.promise.specs.Ends.{slotsOf}
+use Rattle.promise.proofs.Lists.{each-map}
+use Rattle.promise.proofs.Views.{SameSlots, receiving-here, receiving-other, sending-stays, slots-hold, put-here, put-apart}
+use Rattle.promise.proofs.Ends.{End, HasCome, Joined, mark, got, gets-ok, wide, flow-as}
+use Rattle.promise.proofs.SendingAnew.{way-apart, channel-apart, whose-served}
+use Rattle.promise.proofs.ReceivingAnew.{receiving-joined}
+use Rattle.promise.proofs.OwedNumbers.{enter-words, each-enter}
+
+-- the end that message n of a channel has come to, with octets x
+abbrev pub afterStoring : End → ℕ → ℕ → Message → End
+afterStoring e channel n x =
+    record {
+      line = storedLine (e .line) channel (n % modulus) (length x);
+      i = e .i;
+      store = storedStore (e .line) (e .i) channel (n % modulus) x (e .store);
+      past = record { opened = e .past .opened; taken = e .past .taken; handed = e .past .handed; wrote = e .past .wrote; owes = enter (e .past .owes) (mark channel n); came = mark channel n ∷ e .past .came };
+    }
+
+-- "the message is stored, unless that place is already filled"; an old one "is not stored": what the store has then
+module _ {e f : End} (k : Relaying (e .line)) (j : Joined e f) (channel : ℕ) (v : reliable channel ≡ true) (x : Message) (small : length x ≤ largest) where
+  abbrev l : Line
+  l = e .line
+
+  abbrev w : ℕ
+  w = windowOf channel
+
+  abbrev r : Receiving
+  r = receivingOf l channel
+
+  abbrev put : Arrival → List ℕ
+  put a = putAs w r (regionOf (e .i) way.Receiving channel) a x (e .store)
+
+  abbrev Near : Arrival → Type 0
+  Near a = (d : ℕ) → a ≡ Stored d → d < w
+
+  put-slots : (a : Arrival) → Near a → PutAs w r a (slotsOf (e .store) (e .i) way.Receiving channel) (slotsOf (put a) (e .i) way.Receiving channel) x
+  put-slots (Stored d) near = put-here (e .store) (j .mine .long) (e .i) (j .mine .small) way.Receiving channel v (arrivalPlace w r d) x (place-near l k channel (near d refl)) small
+  put-slots There near = refl
+  put-slots Old near = refl
+
+  put-others : (a : Arrival) → Near a → (y : Owner) → Served y → _≢_ {A = Owner} (record { line = e .i; way = way.Receiving; channel = channel }) y
+      → SameSlots (y .line) (y .way) (y .channel) (e .store) (put a)
+  put-others (Stored d) near y s b = put-apart (e .store) (j .mine .long) (e .i) (j .mine .small) way.Receiving channel v (arrivalPlace w r d) x (place-near l k channel (near d refl)) small y s b
+  put-others There near y s b = λ p q. refl
+  put-others Old near y s b = λ p q. refl
+
+  module _ (n : ℕ) (there : Data (f .past .taken channel) n x) (fresh : length (f .past .taken channel) ≤ n + bound) where
+    abbrev a : Arrival
+    a = arrivalAt l channel (n % modulus)
+
+    abbrev new : Receives
+    new = receives w (slotsOf (put a) (e .i) way.Receiving channel) (arrivedAs w r a (length x))
+
+    near : Near a
+    near d q = stored-near w r (n % modulus) q
+
+    -- it comes under its full number
+    comes : PayloadMove (got e channel) new n x
+    comes =
+        let b = j .back channel v in
+        rw (arrival-field w r n) (arrived-moves w (slotsOf (e .store) (e .i) way.Receiving channel) r (gets-ok (j .mine .sides) channel) largest bound (sendingOf (f .line) channel .taken)
+        (wide channel) (b .mid) (omega (arith, b .low, b .high)) (receiving-sized w largest r (j .mine .sides .receiving channel))
+        (slots-hold (e .store) (j .mine .long) (e .i) (j .mine .small) way.Receiving channel v) (slotsOf (put (arrivalOf w r n)) (e .i) way.Receiving channel) n x
+        (omega (arith, there .known, b .count)) (omega (arith, fresh, b .count)) (omega (arith, receiving-long l (j .mine .shaped) channel, window-narrow channel))
+        (put-slots (arrivalOf w r n) (λ d q. stored-near w r n q)))
+
+    side : got (afterStoring e channel n x) channel ≡ new
+    unfolding storedLine storedStore
+    side = ap (receives w (slotsOf (put a) (e .i) way.Receiving channel)) (receiving-here (owingLine l channel (n % modulus)) channel (arrivedAs w r a (length x)))
+
+    -- so every list of what has come stays true, and the message is one of them
+    more : Grows (got e channel) (got (afterStoring e channel n x) channel)
+    more = subst (Grows (got e channel)) (sym side) (arrived-grows (got e channel) new n x comes)
+
+    has : HasCome (got (afterStoring e channel n x)) (mark channel n)
+    has = record { served = v; have = subst (λ (y : Receives). Have y n) (sym side) (arrived-have (got e channel) new n x comes (data-full (j .back channel v) there)) }
+
+    long : 42240 ≤ length (storedStore l (e .i) channel (n % modulus) x (e .store))
+    long = omega (arith, j .mine .long, stored-store-length l (e .i) channel (n % modulus) x (e .store))
+
+    pub storing-joined : 0 < length x → Joined (afterStoring e channel n x) f
+    unfolding storedLine storedStore
+    storing-joined some =
+        let number = n % modulus in
+        let few : number < 16384 = omega arith in
+        let fits : sizeFits largest (length x) ≡ true = rw (lt-ltb 0 (length x) some, le-leb (length x) largest small) in
+        let next = arrivedAs w r a (length x) in
+        let q = stored-stays l channel number (length x) in
+        receiving-joined j channel (storedLine l channel number (length x)) (put a) (e .past .handed) (enter (e .past .owes) (mark channel n)) (mark channel n ∷ e .past .came)
+        (k .opened) (k .inside) (record { opened = q .opened; identifier = q .identifier; kind = q .kind; modes = q .modes })
+        (stored-relaying l k (j .mine .shaped) channel number v few (length x) fits .fits, stored-shaped l (j .mine .shaped) channel number (length x))
+        long
+        (λ c. sending-stays (owingLine l channel number) channel c next) (λ c u d. receiving-other (owingLine l channel number) channel c v u d next)
+        (λ c u. put-others a near (record { line = e .i; way = way.Sending; channel = c }) (whose-served (e .i) way.Sending c (j .mine .small) u) (λ g. way-apart (sym g)))
+        (λ c u d. put-others a near (record { line = e .i; way = way.Receiving; channel = c }) (whose-served (e .i) way.Receiving c (j .mine .small) u) (channel-apart d))
+        (λ c d. refl)
+        (ap owedOf owing ∙ entered-list (l .owed) (wordOf channel number) ∙ ap (λ (ws : List ℕ). enters ws (wordOf channel number)) (j .mine .owed) ∙ enter-words (e .past .owes) (mark channel n))
+        (λ g. (each-enter (mark channel n) has (each-map g (j .mine .owes)), also has (each-map g (j .mine .came))))
+        more
+        (flow-as refl side refl refl (arrive-flow (j .back channel v) new n x there comes))
+      where
+        owing : storedLine l channel (n % modulus) (length x) .owed ≡ entered (l .owed) (wordOf channel (n % modulus))
+        owing = pick-by (λ (m : Line). m .owed ≡ entered (l .owed) (wordOf channel (n % modulus))) (eqb channel 1) (λ _. refl) (λ _. refl)

@@ -1,0 +1,197 @@
+-- The build that compares sequence numbers by size does not meet demand 3: its stream stops at message 16,383. The next one has number 0 and is
+-- taken for an old one: it has come, and cannot be handed out.
+-- Assumes nothing.
+use Prim.Native.Nat.{ℕ, zero, suc, _≤_}
+use mathlib.Core.Path.{_≡_, refl, sym, ap, subst, _∙_}
+use mathlib.Core.Bool.{Bool, true}
+use mathlib.Core.List.{List, [], List·Memᴰ·head}
+use native.Mathlib.Nat.{sub-self}
+use native.Mathlib.Omega.{arith}
+use lib.Dec.{lit≤, lit<}
+use lib.ListN.{length}
+use borrow.Author.Tests.{lt-ltb}
+use Rattle.ground.specs.Every.{every}
+use Rattle.ground.specs.Pick.{pick}
+use Rattle.ground.proofs.Verdicts.{passed}
+use Rattle.places.specs.Places.{maskOf, bitOf}
+use Rattle.packet.specs.Read.{headAt}
+use Rattle.channel.specs.Channel.{windowOf}
+use Rattle.sending.specs.Sending.{sendingFits}
+use Rattle.receiving.specs.Receiving.{receivingFits}
+use Rattle.channel.specs.Sizes as sizes
+use Rattle.receiving.specs.declared.Receiving.{Receiving}
+use Rattle.flow.proofs.Keeps.{receiving-sized}
+use Rattle.flow.specs.Flow.{Full}
+use Rattle.flow.specs.View.{messageOf}
+use Rattle.flow.proofs.Messages.{message-full}
+use Rattle.owed.specs.Owed.{member, noTwice, allSpans, owedFits}
+use Rattle.mode.specs.Fit.{modesFit}
+use Rattle.mode.specs.Given.{modem}
+use Rattle.mode.specs.Moved.{channelsFor, timed, moved}
+use Rattle.mode.specs.Request.{askStep}
+use Rattle.mode.specs.Acts.{ask}
+use Rattle.line.specs.Fit.{largest, lineFits}
+use Rattle.line.specs.Line.{closedLine}
+use Rattle.line.specs.Mode.{steppedTo}
+use Rattle.line.specs.declared.Line.{Line}
+use Rattle.store.specs.declared.Way.the-variants as way
+use Rattle.relay.specs.RelayTests.{relayChannelTests}
+use Rattle.relay.specs.HandOut.{handCallTests}
+use Rattle.book.specs.Resting.{allSpan}
+use Rattle.book.specs.Book.{lineOf, withLine, openIn, linesFit, bookFits}
+use Rattle.book.proofs.OtherLines.{line-same}
+use Rattle.book.proofs.Facts.{line-fits}
+use Rattle.calls.specs.Call.{Call}
+use Rattle.calls.specs.Call as call
+use Rattle.calls.specs.Order.{openTests, modeTests, lineFor, tests}
+use Rattle.calls.specs.Result.{CallResult, resultOf, acceptedResult, effect}
+use Rattle.promise.specs.Past.{Past, nothingYet, justOpened, heardPast}
+use Rattle.promise.specs.Run.{Gateway, does, after, lineAt, rankedMark, moded, heard, opens, calls, Step, Goes, stay, here, there, Run}
+use Rattle.promise.specs.Promise.{receivesBy, AllCame, HandsOut}
+use Rattle.promise.specs.Promise as promise
+use Rattle.promise.specs.Ends.{slotsOf, receivesOf}
+use Rattle.promise.specs.Demand3.{Serves, Demand3}
+use Rattle.refuted.specs.Idle.{unread, ignored}
+use Rattle.refuted.specs.Quick.{expected, isOlder, older, bySize}
+use Rattle.promise.proofs.Views.{slots-hold}
+use Rattle.promise.proofs.Ends.{Sides, gets-ok, relay-sides}
+use Rattle.promise.proofs.OwnLine.{call-passes}
+use Rattle.promise.proofs.CallsKeep.{hand-asks}
+use Rattle.promise.proofs.StepsKeep.{run-kept}
+use Rattle.promise.proofs.Demand3.{turned-run}
+use Rattle.refuted.proofs.IdlePackets.{named}
+use Rattle.refuted.proofs.IdleRuns.{fresh, inside, begun, run}
+use Rattle.refuted.proofs.Twins.{f, Twin, turned, goes-on, served, ready, S-is, h-is, R-is}
+use Rattle.refuted.proofs.Rounds as rounds
+use Rattle.refuted.proofs.Rounds.{At, space}
+use Rattle.refuted.proofs.Answered.{round}
+
+-- the two begin, in a run of ours and of this build alike
+start : At 0
+unfolding resultOf acceptedResult effect tests lineFor openTests modeTests bookFits linesFit allSpan openIn lineFits member noTwice allSpans owedFits modesFit sendingFits receivingFits sizes.sizesFit every askStep moved timed channelsFor steppedTo
+start =
+    let opening : Call = call.opening 0 (named 5) 0 in
+    let asks : Call = call.mode 0 (ask modem 0) in
+    let g : Gateway = after resultOf (after resultOf fresh opening []) asks [] in
+    let w : Goes resultOf 0 0 5 98 fresh nothingYet fresh nothingYet g justOpened g justOpened
+    = there (here (there (here stay
+    (opens refl (named 5) 0 [] refl refl refl))
+    (opens refl (named 5) 0 [] refl refl refl))
+    (calls refl asks [] refl (λ _. refl) (moded (ask modem 0))))
+    (calls refl asks [] refl (λ _. refl) (moded (ask modem 0))) in
+    record {
+      g = g;
+      p = justOpened;
+      h = g;
+      q = justOpened;
+      twin = record { ours = run resultOf w; sized = run f (begun resultOf resultOf older); mine = (refl, refl); yours = (refl, refl) };
+      taken = refl;
+      handed = refl;
+      base = refl;
+      silent = refl;
+      quiet = refl;
+      idle = refl;
+      deaf = refl;
+    }
+
+-- message after message
+up-to : (k : ℕ) → k ≤ 16384 → At k
+up-to zero l = start
+up-to (suc k) l = round (omega arith) (up-to k (omega arith))
+
+-- Message 16,384 arrives.
+module _ (a : At 16384) where
+  abbrev few : 16384 ≤ 16384
+  few = lit≤ tt
+
+  abbrev h : Gateway
+  h = a .h
+
+  abbrev s : List ℕ
+  s = rounds.packet few a .octets
+
+  abbrev comes : Call
+  comes = rounds.arrival few a
+
+  is-older : isOlder s (h .book) ≡ true
+  is-older = lt-ltb (headAt s .number) (expected s (h .book)) (omega (arith, rounds.said-number few a, rounds.next-there few a))
+
+  -- what is left of the far gateway
+  abbrev left : CallResult
+  left = ignored s (h .book) (h .store) []
+
+  ignores : does f h comes [] ≡ left
+  ignores = ap (λ (b : Bool). pick b left (resultOf comes (h .book) (h .store) [])) is-older
+
+  abbrev h′ : Gateway
+  h′ = record { book = left .book; store = left .store }
+
+  abbrev q′ : Past
+  q′ = heardPast (a .q) (rounds.packet few a)
+
+  yours : Twin (a .h) (a .q) (rounds.g₂ few a) (rounds.p₂ few a)
+  yours = turned (rounds.t₂ few a)
+
+  -- its line has received nothing
+  line : lineAt h′ 0 ≡ unread (lineAt h 0) (lineAt (after resultOf h comes []) 0)
+  line =
+      let then : Gateway = after resultOf h comes [] in
+      ap (λ (i : ℕ). lineOf (withLine (h .book) i (unread (lineOf (h .book) i) (lineOf (then .book) i))) 0) (rounds.here few a)
+      ∙ line-same (h .book) (ready yours .shaped) 0 (lit< tt) (unread (lineAt h 0) (lineAt then 0))
+
+  let-in : Serves resultOf h 0 comes []
+  let-in = served yours .arrives s (rounds.packet few a) (rounds.honest few a) [] .1
+
+  opened : lineAt h′ 0 .opened ≡ true
+  opened = ap (λ (l : Line). l .opened) line ∙ let-in .opened
+
+  within : lineAt h′ 0 .modes .local ≡ modem
+  within = ap (λ (l : Line). l .modes .local) line ∙ let-in .inside
+
+  gone : Run f 0 0 5 98 (rounds.g₂ few a) (rounds.p₂ few a) h′ q′
+  gone =
+      let step : Step f 0 5 98 (rounds.p₂ few a) h (a .q) h′ q′
+      = subst (λ (d : CallResult). Step f 0 5 98 (rounds.p₂ few a) h (a .q) (record { book = d .book; store = d .store }) q′) ignores
+      (calls (yours .mine .0) comes [] (subst (λ (d : CallResult). lineOf (d .book) 0 .opened ≡ true) (sym ignores) opened)
+      (λ _. subst (λ (d : CallResult). lineOf (d .book) 0 .modes .local ≡ modem) (sym ignores) within)
+      (heard s (rounds.packet few a) (rounds.here few a) (yours .mine .1) (rounds.honest few a))) in
+      turned-run (goes-on (yours .sized) step)
+
+  -- message R is not stored, as all that was taken before is handed out
+  abbrev r : Receiving
+  r = lineAt h 0 .receiving1
+
+  not-stored : bitOf (maskOf (r .stored)) 0 ≡ true → ⊥
+  not-stored bit =
+      let k = ready yours in
+      let sides : Sides (lineAt h 0) = relay-sides (lineAt h 0) (line-fits (h .book) (k .fits) 0) (k .opened) (yours .mine .1) in
+      let slots = slotsOf (h .store) 0 way.Receiving 1 in
+      let full = message-full (windowOf 1) slots (r .sizes) (maskOf (r .stored)) (r .store1) largest (gets-ok sides 1 .placed) (receiving-sized (windowOf 1) largest r (sides .receiving 1))
+      (slots-hold (h .store) (k .long) 0 (lit< tt) way.Receiving 1 refl) 0 (lit< tt) bit in
+      let there : Full (receivesOf (h .store) 0 (lineAt h 0) 1 .stored (r .next))
+      = subst (λ (n : ℕ). Full (messageOf (windowOf 1) slots (r .sizes) (maskOf (r .stored)) (r .store1) n)) (sym (sub-self (r .next))) full in
+      let seen : Full (receivesBy h 0 (a .q) 1 .stored (receivesBy h 0 (a .q) 1 .R))
+      = subst (λ (o : Bool). Full (receivesOf (h .store) 0 (pick o (lineAt h 0) closedLine) 1 .stored (receivesOf (h .store) 0 (pick o (lineAt h 0) closedLine) 1 .R))) (sym (yours .mine .0)) there in
+      let below = run-kept (a .twin .ours) .joined .there 1 refl .keeps (receivesBy h 0 (a .q) 1 .R) (omega arith) seen .0 in
+      omega (arith, below, R-is (a .twin), S-is (a .twin), a .taken, a .handed)
+
+  -- so no hand-out gives more
+  none-out : {h″ : Gateway} {q″ : Past} → HandsOut f 0 1 (λ n. space) h′ q′ h″ q″ → q″ .handed 1 ≡ rounds.p₂ few a .taken 1 → ⊥
+  unfolding handCallTests relayChannelTests
+  none-out promise.acceptedResult e = omega (arith, ap length e, a .handed, rounds.taken₁ few a)
+  none-out (promise.next t more) e =
+      let pass = hand-asks h′ 0 space 1 (call-passes h′ (call.handOut 0 1) space t) in
+      let bit = passed (handCallTests (lineAt h′ 0) 1 (length space)) pass .1 .1 .1 .1 .0 in
+      not-stored (ap (λ (l : Line). bitOf (maskOf (l .receiving1 .stored)) 0) (sym line) ∙ bit)
+
+  came : AllCame 1 (rounds.g₂ few a) 0 (rounds.p₂ few a) q′
+  came n low high full =
+      let t = rounds.t₂ few a in
+      let e : n ≡ rankedMark (rounds.g₁ few a) 0 1 (rounds.ranked few a .0) .number = omega (arith, low, high, h-is t, S-is t, rounds.base₂ few a, rounds.taken₁ few a, rounds.number few a) in
+      List·Memᴰ·head (λ i. record { channel = 1; number = e i })
+
+pub by-size-fails : Demand3 bySize → ⊥
+by-size-fails d =
+    let a = up-to 16384 (lit≤ tt) in
+    let e = d .ends (gone a) (rounds.t₂ (few a) a .mine) (yours a .mine .0, within a) 1 refl .all-out (came a) (λ n. space) (λ n. lit≤ tt) in
+    none-out a (e .hands) (e .all)

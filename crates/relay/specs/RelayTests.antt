@@ -1,0 +1,26 @@
+-- What the relay calls ask of their line first: "NOLINE, MODE, CHANNEL".
+-- Assumes nothing.
+use Prim.Native.Nat.{ℕ}
+use mathlib.Core.Bool.{Bool, _||_}
+use mathlib.Core.List.{List, [], _∷_, _++_}
+use lib.Dec.{eqb}
+use Rattle.ground.specs.Refusal.{Test, must}
+use Rattle.ground.specs.declared.Refusal.the-variants.{NOLINE, MODE, CHANNEL}
+use Rattle.mode.specs.Given.{modem}
+use Rattle.line.specs.declared.Line.{Line}
+
+-- "relay call .. outside m"
+abbrev pub inRelay : Line → Bool
+inRelay l = eqb (l .modes .local) modem
+
+-- a call on a line's channels asks "NOLINE, MODE"
+abbrev pub relayLineTests : Line → List Test
+relayLineTests l = must (l .opened) NOLINE ∷ must (inRelay l) MODE ∷ []
+
+-- "message call not naming 1 or 2"
+abbrev pub reliable : ℕ → Bool
+reliable channel = eqb channel 1 || eqb channel 2
+
+-- and a call on a reliable one
+unfoldable pub relayChannelTests : Line → ℕ → List Test
+relayChannelTests l channel = relayLineTests l ++ (must (reliable channel) CHANNEL ∷ [])
