@@ -142,7 +142,7 @@ stores-nothing-fails d =
 
     none-out : {h′ : Gateway} {q′ : Past} → HandsOut (arriving loses) 0 1 (λ n. replicate 144 0) (start loses) (heardPast justOpened (packet loses)) h′ q′
         → q′ .handed 1 ≡ (7 ∷ []) ∷ [] → ⊥
-    none-out promise.acceptedResult e = let n : _≡_ {A = ℕ} 0 1 = ap length e in omega (arith, n)
+    none-out promise.done e = let n : _≡_ {A = ℕ} 0 1 = ap length e in omega (arith, n)
     none-out (promise.next t more) e = clash t
 
 -- Serving only the first: 7 and 8 are taken, 8 is written and arrives unread, and its acknowledgement comes back.

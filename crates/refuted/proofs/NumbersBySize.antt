@@ -166,7 +166,7 @@ module _ (a : At 16384) where
       let k = ready yours in
       let sides : Sides (lineAt h 0) = relay-sides (lineAt h 0) (line-fits (h .book) (k .fits) 0) (k .opened) (yours .mine .1) in
       let slots = slotsOf (h .store) 0 way.Receiving 1 in
-      let full = message-full (windowOf 1) slots (r .sizes) (maskOf (r .stored)) (r .store1) largest (gets-ok sides 1 .placed) (receiving-sized (windowOf 1) largest r (sides .receiving 1))
+      let full = message-full (windowOf 1) slots (r .sizes) (maskOf (r .stored)) (r .origin) largest (gets-ok sides 1 .placed) (receiving-sized (windowOf 1) largest r (sides .receiving 1))
       (slots-hold (h .store) (k .long) 0 (lit< tt) way.Receiving 1 refl) 0 (lit< tt) bit in
       let there : Full (receivesOf (h .store) 0 (lineAt h 0) 1 .stored (r .next))
       = subst (λ (n : ℕ). Full (messageOf (windowOf 1) slots (r .sizes) (maskOf (r .stored)) (r .store1) n)) (sym (sub-self (r .next))) full in
@@ -178,7 +178,7 @@ module _ (a : At 16384) where
   -- so no hand-out gives more
   none-out : {h″ : Gateway} {q″ : Past} → HandsOut f 0 1 (λ n. space) h′ q′ h″ q″ → q″ .handed 1 ≡ rounds.p₂ few a .taken 1 → ⊥
   unfolding handCallTests relayChannelTests
-  none-out promise.acceptedResult e = omega (arith, ap length e, a .handed, rounds.taken₁ few a)
+  none-out promise.done e = omega (arith, ap length e, a .handed, rounds.taken₁ few a)
   none-out (promise.next t more) e =
       let pass = hand-asks h′ 0 space 1 (call-passes h′ (call.handOut 0 1) space t) in
       let bit = passed (handCallTests (lineAt h′ 0) 1 (length space)) pass .1 .1 .1 .1 .0 in
