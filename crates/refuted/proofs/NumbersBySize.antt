@@ -169,7 +169,7 @@ module _ (a : At 16384) where
       let full = message-full (windowOf 1) slots (r .sizes) (maskOf (r .stored)) (r .origin) largest (gets-ok sides 1 .placed) (receiving-sized (windowOf 1) largest r (sides .receiving 1))
       (slots-hold (h .store) (k .long) 0 (lit< tt) way.Receiving 1 refl) 0 (lit< tt) bit in
       let there : Full (receivesOf (h .store) 0 (lineAt h 0) 1 .stored (r .next))
-      = subst (λ (n : ℕ). Full (messageOf (windowOf 1) slots (r .sizes) (maskOf (r .stored)) (r .store1) n)) (sym (sub-self (r .next))) full in
+      = subst (λ (n : ℕ). Full (messageOf (windowOf 1) slots (r .sizes) (maskOf (r .stored)) (r .origin) n)) (sym (sub-self (r .next))) full in
       let seen : Full (receivesBy h 0 (a .q) 1 .stored (receivesBy h 0 (a .q) 1 .R))
       = subst (λ (o : Bool). Full (receivesOf (h .store) 0 (pick o (lineAt h 0) closedLine) 1 .stored (receivesOf (h .store) 0 (pick o (lineAt h 0) closedLine) 1 .R))) (sym (yours .mine .0)) there in
       let below = run-kept (a .twin .ours) .joined .there 1 refl .keeps (receivesBy h 0 (a .q) 1 .R) (omega arith) seen .0 in
