@@ -7,15 +7,19 @@ cd "$(dirname "$0")/.." || exit 2
 first=${1:-1}
 last=${2:-9}
 calls=${3:-25000}
-[ "$first" -le "$last" ] && [ "$calls" -gt 0 ] || { echo "no scripts are asked for"; exit 2; }
+if [ "$first" -gt "$last" ] || [ "$calls" -le 0 ]; then
+    echo "no scripts are asked for"
+    exit 2
+fi
 log=$(mktemp -d) || exit 2
 trap 'rm -rf "$log"' EXIT
+# shellcheck source=tests/cargo.bash
 . tests/cargo.bash
-(cd second && CARGO_TARGET_DIR=$log/built cargo build --release --offline --quiet) || exit 1
-for program in desk carry; do
-    rt check "$program" > "$log/check" 2>&1 || { tail -n 20 "$log/check"; echo "$program is not built"; exit 1; }
-done
-second=$log/built/release
+cargo build --manifest-path second/Cargo.toml --release --offline --quiet || exit 1
+# shellcheck source=tests/run.bash
+. tests/run.bash
+built desk carry
+second=target/second/release
 bad=0
 answers=0
 fail() { echo "$1"; bad=1; }
@@ -26,7 +30,7 @@ ran() {
     shift 2
     "$@" > "$output"
     status=$?
-    [ "$status" -eq 0 ] || fail "$name: $1 ended with status $status"
+    [ "$status" -eq 0 ] || fail "$name: ${*:1:2} ended with status $status"
 }
 
 # same NAME: have the two said the same?
@@ -37,12 +41,12 @@ same() {
 }
 
 # held NAME SEED CALLS [KIND]: do both answer the script of that seed alike? One that is cut off would show little: the generator writes
-# a line for each call that it is asked for at the least, each of them has an answer, and behind the last one stands `end`.
+# a line for each call that it is asked for at the least, each of them has an answer, and after the last one stands `end`.
 held() {
     local name=$1 asked=$3 given
     shift
     ran "$name" "$log/script" "$second/scripts" "$@"
-    ran "$name" "$log/one" target/bin/desk < "$log/script"
+    ran "$name" "$log/one" run desk < "$log/script"
     ran "$name" "$log/other" "$second/desk2" < "$log/script"
     given=$(($(wc -l < "$log/one") - 1))
     [ "$given" -ge "$asked" ] || fail "$name: $given answers, where $asked calls were asked for"
@@ -54,7 +58,7 @@ held() {
 # carried COUNT OCTETS WHAT: do both say the same of so many messages, and that all of them were carried where that is asked?
 carried() {
     local name="carry $*" count='[0-9]*'
-    ran "$name" "$log/one" target/bin/carry "$@"
+    ran "$name" "$log/one" run carry "$@"
     ran "$name" "$log/other" "$second/carry2" "$@"
     same "$name"
     case $3 in

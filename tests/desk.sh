@@ -3,14 +3,11 @@
 # stream that is made here, from message 0 past number 16,384 on both channels, with every answer known beforehand.
 set -u
 cd "$(dirname "$0")/.." || exit 2
-log=$(mktemp) || exit 2
-trap 'rm -f "$log" "$log".*' EXIT
-if ! rt check desk > "$log" 2>&1; then
-    tail -n 20 "$log"
-    echo "the desk is not built"
-    exit 1
-fi
-desk=target/bin/desk
+log=$(mktemp -d) || exit 2
+trap 'rm -rf "$log"' EXIT
+# shellcheck source=tests/run.bash
+. tests/run.bash
+built desk
 bad=0
 
 # held NAME EXPECTED GIVEN: are they the same?
@@ -26,8 +23,8 @@ held() {
 
 for script in tests/desk/*.script; do
     name=${script%.script}
-    "$desk" < "$script" > "$log.given"
-    held "$(basename "$name")" "$name.expected" "$log.given"
+    run desk < "$script" > "$log/given"
+    held "$(basename "$name")" "$name.expected" "$log/given"
 done
 
 # Message n of a channel is taken at A, sent, arrives at B and is handed out there; the answer acknowledges it and moves the base.
@@ -48,7 +45,7 @@ stream() {
     printf '%s\n' 'A held 0 1' 'A held 0 2' 'B close 3' >&3
     printf '%s\n' 'ok 0' 'ok 0' 'ok 10B880100900100900000000' end >&4
 }
-stream 3> "$log.script" 4> "$log.expected"
-"$desk" < "$log.script" > "$log.given"
-held "stream" "$log.expected" "$log.given"
+stream 3> "$log/script" 4> "$log/expected"
+run desk < "$log/script" > "$log/given"
+held "stream" "$log/expected" "$log/given"
 exit "$bad"

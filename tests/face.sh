@@ -1,13 +1,14 @@
 #!/usr/bin/env bash
 # No function of the library's face has a `requires`: nobody has to check before a call.
-# The face is every `pub fn` of every crate of crates.txt, save the inner ones named here, whose functions may ask for a fact that
-# BOOK's test gives, and the programs with what they share. A new crate is of the face until it is named.
+# The face is every `pub fn` of every library of crates.txt, save the inner ones named here, whose functions may ask for a fact that
+# BOOK's test gives, or a program. A new crate is of the face until it is named, and is named only while it has such a function.
 set -u
 cd "$(dirname "$0")/.." || exit 2
-inner="places channel sending receiving owed resting store line relay writing laden effect arriving book order admit address"
-programs="digits words desk night carry first"
-crates=$(sed -n 's/^\([a-z0-9_]*\):.*/\1/p' crates.txt)
-[ -n "$crates" ] || { echo "crates.txt lists nothing"; exit 1; }
+# shellcheck source=tests/crates.bash
+. tests/crates.bash
+inner=(places channel sending receiving owed resting store relay writing laden effect arriving book digits)
+mapfile -t crates < <(listed)
+[ "${#crates[@]}" -gt 0 ] || { echo "crates.txt lists nothing"; exit 1; }
 bad=0
 fail() { echo "$1"; bad=1; }
 
@@ -21,22 +22,29 @@ among() {
     return 1
 }
 
-for crate in $inner $programs; do
-    among "$crate" $crates || fail "$crate: named as inner, and crates.txt does not list it"
+# asking FILE..: the public functions that have a `requires`.
+asking() {
+    awk '
+        /^ *(pub )?(extern "C" )?fn / { open = /^ *pub /; name = $0; sub(/^ */, "", name) }
+        open && /^([^\/]* )?requires( |$)/ { print FILENAME ": " name; open = 0 }
+        /^ *\{ *$/ { open = 0 }' "$@"
+}
+
+for crate in "${inner[@]}"; do
+    among "$crate" "${crates[@]}" || fail "$crate: named as inner, and crates.txt does not list it"
 done
 looked=0
-for crate in $crates; do
-    ! among "$crate" $inner $programs || continue
-    for file in crates/"$crate"/src/*.rt; do
-        [ -f "$file" ] || { fail "$crate: no source"; continue; }
+for crate in "${crates[@]}"; do
+    [ ! -f "crates/$crate/src/main.rt" ] || continue
+    [ -f "crates/$crate/src/lib.rt" ] || { fail "$crate: no source"; continue; }
+    mapfile -t files < <(find "crates/$crate/src" -name '*.rt' | sort)
+    found=$(asking "${files[@]}")
+    if among "$crate" "${inner[@]}"; then
+        [ -n "$found" ] || fail "$crate: named as inner, and no public function of it has a 'requires'"
+    else
         looked=$((looked + 1))
-        found=$(awk '
-            /^ *pub (extern "C" )?fn / { name = $0; open = 1 }
-            /^ *fn / { open = 0 }
-            open && /^ *requires/ { print FILENAME ": " name; open = 0 }
-            /^ *\{ *$/ { open = 0 }' "$file")
         [ -z "$found" ] || fail "$found"
-    done
+    fi
 done
-echo "the face: $looked files looked at"
+echo "the face: no 'requires' in $looked crates; ${#inner[@]} are inner"
 exit "$bad"

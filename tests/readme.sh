@@ -2,6 +2,7 @@
 # The README's example is the program `first`, word for word, so that what is proved and run is what a newcomer reads.
 set -u
 cd "$(dirname "$0")/.." || exit 2
+# shellcheck disable=SC2016 # the ticks are Markdown's
 shown=$(sed -n '/^```rust$/,/^```$/p' README.md | sed '1d;$d')
 if [ -z "$shown" ]; then
     echo "README.md shows no program"

@@ -57,13 +57,12 @@ impl Writer {
     }
 
     /// The octets written. A last octet that is not full gets zero bits.
-    pub fn finish(mut self) -> Vec<u8> {
-        while self.bits.len() % 8 != 0 {
-            self.bits.push(false);
-        }
+    pub fn finish(self) -> Vec<u8> {
         self.bits
             .chunks(8)
-            .map(|bits| bits.iter().fold(0, |octet, &bit| octet * 2 + u8::from(bit)))
+            .map(|bits| {
+                bits.iter().fold(0, |octet, &bit| octet * 2 + u8::from(bit)) << (8 - bits.len())
+            })
             .collect()
     }
 }

@@ -123,6 +123,6 @@ pub fn write_script(
 fn episode_length(kind: Kind, calls: u64) -> u64 {
     match kind {
         Kind::Long => calls,
-        _ => EPISODE.min(((calls + IN_TURN.len() as u64 - 1) / IN_TURN.len() as u64).max(40)),
+        _ => EPISODE.min((calls.saturating_sub(1) / IN_TURN.len() as u64 + 1).max(40)),
     }
 }

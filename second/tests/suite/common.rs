@@ -35,7 +35,8 @@ pub fn holds(script: &str) {
     let mut wanted = Vec::new();
     for line in script.lines().filter(|line| !line.trim().is_empty()) {
         let (call, answer) = line.split_once("=>").unwrap_or((line, "ok"));
-        calls += &format!("{}\n", call.trim());
+        calls += call.trim();
+        calls += "\n";
         wanted.push(answer.trim().to_string());
     }
     let given = answers(calls.as_bytes());

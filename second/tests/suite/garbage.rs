@@ -106,9 +106,7 @@ fn any_words_are_answered() {
 /// Whether an answer may be that line's: `? N` with its own number, and where it begins with no call's word nothing else.
 fn fits(number: u64, line: &[u8], answer: &str) -> bool {
     let text = String::from_utf8_lossy(line);
-    let first = text
-        .split(|part| part == ' ' || part == '\t')
-        .find(|word| !word.is_empty());
+    let first = text.split([' ', '\t']).find(|word| !word.is_empty());
     let may_be_call = matches!(first, Some("A" | "B" | "connect" | "break" | "slip"));
     let accepted = answer == "ok" || answer.starts_with("ok ");
     answer == format!("? {number}") || may_be_call && (accepted || answer.starts_with("no "))

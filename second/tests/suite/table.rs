@@ -69,10 +69,8 @@ fn row_6_window_over_the_wrap() {
          A empty 0 0 => ok 056200008000401B401C\n",
     );
     for number in (16_380..16_384).chain(0..27) {
-        script += &format!(
-            "A arrive 0562{:04X}000041\nA out 0 1 => ok 41\n",
-            0x4000 + number
-        );
+        let word = format!("{:04X}", 0x4000 + number);
+        script.extend(["A arrive 0562", &word, "000041\nA out 0 1 => ok 41\n"]);
     }
     script += "A out 0 1 => ok 77\nA out 0 1 => no 10 NOTHING\n";
     holds(&script);
@@ -108,10 +106,10 @@ fn row_9_sixteen_rest() {
     let mut script =
         String::from("A open 0 9 96 0 0 0\nA close 0 => ok 113800000000000000000000\n");
     let close = |identifier: u8, script: &mut String| {
-        let slip = format!("{:04X}", 0x1000 + (u16::from(identifier) << 5) + (96 >> 2));
-        *script += &format!(
-            "A open 0 {identifier} 96 0 0 0\nA close 0 => ok {slip}00000000000000000000\n"
-        );
+        let slip = 0x1000 + (u16::from(identifier) << 5) + (96 >> 2);
+        let opened = format!("A open 0 {identifier} 96 0 0 0\n");
+        let closed = format!("A close 0 => ok {slip:04X}00000000000000000000\n");
+        script.extend([opened, closed]);
     };
     for identifier in 20..35 {
         close(identifier, &mut script);
