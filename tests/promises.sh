@@ -1,7 +1,7 @@
 #!/usr/bin/env bash
 # The documents held against the files that they name.
 # A document names definitions, theorems and functions with the file that has each, as `name` (`path`): every such file is there, and
-# every name stands in it; in a file of antt as a whole word. docs/PROMISES.md names some. README.md's tables of rooms have every
+# every name stands in it; in a file of antt as a whole word. docs/PROMISES.md names some. README.md's tables of crates have every
 # crate of crates.txt and no other, save a user's own, and no document names the folder of a crate that is not there.
 set -u
 cd "$(dirname "$0")/.." || exit 2
@@ -36,16 +36,16 @@ done <<< "$pairs"
 [ "$promised" -gt 0 ] || fail "docs/PROMISES.md names nothing"
 echo "documents: $checked names looked up, $promised of them in docs/PROMISES.md"
 
-# The tables stand between the heading 'The rooms' and the next one; the first cell of a row names the crate.
+# The tables stand between the heading 'The crates' and the next one; the first cell of a row names the crate.
 # shellcheck disable=SC2016
-rooms=$(awk -F'|' '/^## / { on = $0 == "## The rooms" } on && /^\|/ { print $2 }' README.md | grep -o '`[^`]*`' | tr -d '`' | sort)
-[ -n "$rooms" ] || fail "README.md: no tables of rooms"
+crates_shown=$(awk -F'|' '/^## / { on = $0 == "## The crates" } on && /^\|/ { print $2 }' README.md | grep -o '`[^`]*`' | tr -d '`' | sort)
+[ -n "$crates_shown" ] || fail "README.md: no tables of crates"
 while IFS= read -r crate; do
-    fail "README.md: the room $crate is not in crates.txt, or stands twice"
-done < <(comm -23 <(echo "$rooms") <(listed | sort))
+    fail "README.md: the crate $crate is not in crates.txt, or stands twice"
+done < <(comm -23 <(echo "$crates_shown") <(listed | sort))
 while IFS= read -r crate; do
-    fail "README.md: no room for the crate $crate; a crate of your own belongs below the line '# your own' of crates.txt"
-done < <(comm -13 <(echo "$rooms") <(listed | sort))
+    fail "README.md: no row for the crate $crate; a crate of your own belongs below the line '# your own' of crates.txt"
+done < <(comm -13 <(echo "$crates_shown") <(listed | sort))
 
 while IFS=: read -r document folder; do
     [ -d "$folder" ] || fail "$document: no folder $folder"

@@ -1,208 +1,175 @@
-// CONNECT and BREAK bodies and slips, which need no book: read, written, and answered. Each answers how many octets its answer
-// has; none where the line is no call.
-use crate::says::wrote;
+// CONNECT and BREAK bodies and slips, which need no book: read, written, and answered.
+use crate::answer;
+use crate::answer::Reply;
 use breaks::Break;
 use connect::Connect;
 use connect::Way;
 use slip::Slip;
-use words::Asked;
+use words::Arguments;
+use words::Numbers;
 
-// A flag as a number.
-fn number(flag: bool) -> u64 {
-    if flag { 1 } else { 0 }
-}
-
-// Puts one value more of a CONNECT, of 16 bits.
-fn short(out: &mut [u8], at: usize, value: u16) -> usize {
-    words::decimal(out, at, value as u64)
-}
-
-// Puts one value more, of 8 bits.
-fn octet(out: &mut [u8], at: usize, value: u8) -> usize {
-    words::decimal(out, at, value as u64)
-}
-
-// Puts one flag more.
-fn flag(out: &mut [u8], at: usize, value: bool) -> usize {
-    words::decimal(out, at, number(value))
-}
-
-// Puts the first six of a CONNECT's values.
-fn says_rates(c: Connect, out: &mut [u8]) -> usize {
-    let ok = words::put(out, 0, b"ok");
-    let a = octet(out, ok, c.modulation);
-    let b = octet(out, a, c.direction);
-    let d = octet(out, b, c.compression);
-    let e = octet(out, d, c.correction);
-    let f = short(out, e, c.transmit.rate);
-    short(out, f, c.receive.rate)
-}
-
-// Puts its six flags.
-fn says_flags(c: Connect, at: usize, out: &mut [u8]) -> usize {
-    let a = flag(out, at, c.dlci);
-    let b = flag(out, a, c.octet);
-    let d = flag(out, b, c.rawbit);
-    let e = flag(out, d, c.frame);
-    let f = flag(out, e, c.charstat);
-    flag(out, f, c.chardyn)
-}
-
-// Puts its last six values.
-fn says_ways(c: Connect, at: usize, out: &mut [u8]) -> usize {
-    let a = short(out, at, c.transmit.dictionary);
-    let b = short(out, a, c.receive.dictionary);
-    let d = octet(out, b, c.transmit.string);
-    let e = octet(out, d, c.receive.string);
-    let f = short(out, e, c.transmit.history);
-    short(out, f, c.receive.history)
-}
-
-// `connect read OCTETS`
-fn read_connect(s: &[u8], at: usize, out: &mut [u8]) -> usize {
-    let mut body = [0u8; 600];
-    let asked = words::read(s, at, b"o", &mut body);
-    if !asked.good {
-        return 0;
-    }
-    let size = asked.size;
-    let reading = connect::read(&body[0..size]);
-    match reading {
-        connect::Reading::Refused(r) => words::refusal(out, r),
-        connect::Reading::Says(c) => {
-            let rates = says_rates(c, out);
-            let flags = says_flags(c, rates, out);
-            says_ways(c, flags, out)
-        }
-    }
+// The 18 values of a CONNECT.
+fn of_connect(c: Connect) -> Numbers {
+    let transmit = c.transmit;
+    let receive = c.receive;
+    let values = [
+        c.modulation as u64,
+        c.direction as u64,
+        c.compression as u64,
+        c.correction as u64,
+        transmit.rate as u64,
+        receive.rate as u64,
+        c.dlci as u64,
+        c.octet as u64,
+        c.rawbit as u64,
+        c.frame as u64,
+        c.charstat as u64,
+        c.chardyn as u64,
+        transmit.dictionary as u64,
+        receive.dictionary as u64,
+        transmit.string as u64,
+        receive.string as u64,
+        transmit.history as u64,
+        receive.history as u64,
+    ];
+    Numbers { values, count: 18 }
 }
 
 // The CONNECT of 18 values.
-fn connect_of(asked: Asked) -> Connect {
+fn connect_of(a: Arguments) -> Connect {
     let transmit = Way {
-        rate: asked.short(4),
-        dictionary: asked.short(12),
-        string: asked.octet(14),
-        history: asked.short(16),
+        rate: a.short(4),
+        dictionary: a.short(12),
+        string: a.octet(14),
+        history: a.short(16),
     };
     let receive = Way {
-        rate: asked.short(5),
-        dictionary: asked.short(13),
-        string: asked.octet(15),
-        history: asked.short(17),
+        rate: a.short(5),
+        dictionary: a.short(13),
+        string: a.octet(15),
+        history: a.short(17),
     };
     Connect {
-        modulation: asked.octet(0),
-        direction: asked.octet(1),
-        compression: asked.octet(2),
-        correction: asked.octet(3),
+        modulation: a.octet(0),
+        direction: a.octet(1),
+        compression: a.octet(2),
+        correction: a.octet(3),
         transmit,
         receive,
-        dlci: asked.flag(6),
-        octet: asked.flag(7),
-        rawbit: asked.flag(8),
-        frame: asked.flag(9),
-        charstat: asked.flag(10),
-        chardyn: asked.flag(11),
+        dlci: a.flag(6),
+        octet: a.flag(7),
+        rawbit: a.flag(8),
+        frame: a.flag(9),
+        charstat: a.flag(10),
+        chardyn: a.flag(11),
+    }
+}
+
+// `connect read OCTETS`
+fn read_connect(body: &[u8], out: &mut [u8]) -> Reply {
+    let reading = connect::read(body);
+    match reading {
+        connect::Reading::Refused(r) => Reply::Refused(r),
+        connect::Reading::Says(c) => Reply::Put(words::put_numbers(out, of_connect(c))),
     }
 }
 
 // `connect write V1 .. V18 [ROOM]`
-fn write_connect(s: &[u8], at: usize, out: &mut [u8]) -> usize {
-    let asked = words::read(s, at, b"bbbbwwffffffwwbbwwr", out);
-    if !asked.good {
-        return 0;
-    }
-    let mut body = [0u8; 600];
-    let room = asked.slot(18);
-    let answer = connect::write(&mut body[0..room], connect_of(asked));
-    wrote(answer, &body, out)
+fn write_connect(a: Arguments, octets: &mut [u8]) -> Reply {
+    let room = a.slot(18, octets.len());
+    answer::of_writing(connect::write(&mut octets[0..room], connect_of(a)))
+}
+
+// The three values of a BREAK.
+fn of_break(b: Break) -> Numbers {
+    let mut values = [0u64; 18];
+    values[0] = b.source as u64;
+    values[1] = b.kind as u64;
+    values[2] = b.lasts as u64;
+    Numbers { values, count: 3 }
 }
 
 // `break read OCTETS`
-fn read_break(s: &[u8], at: usize, out: &mut [u8]) -> usize {
-    let mut body = [0u8; 600];
-    let asked = words::read(s, at, b"o", &mut body);
-    if !asked.good {
-        return 0;
-    }
-    let size = asked.size;
-    let reading = breaks::read(&body[0..size]);
+fn read_break(body: &[u8], out: &mut [u8]) -> Reply {
+    let reading = breaks::read(body);
     match reading {
-        breaks::Reading::Refused(r) => words::refusal(out, r),
-        breaks::Reading::Says(b) => {
-            let ok = words::put(out, 0, b"ok");
-            let source = octet(out, ok, b.source);
-            let kind = octet(out, source, b.kind);
-            octet(out, kind, b.lasts)
-        }
+        breaks::Reading::Refused(r) => Reply::Refused(r),
+        breaks::Reading::Says(b) => Reply::Put(words::put_numbers(out, of_break(b))),
     }
 }
 
 // `break write SOURCE TYPE LENGTH [ROOM]`
-fn write_break(s: &[u8], at: usize, out: &mut [u8]) -> usize {
-    let asked = words::read(s, at, b"bbbr", out);
-    if !asked.good {
-        return 0;
-    }
+fn write_break(a: Arguments, octets: &mut [u8]) -> Reply {
     let value = Break {
-        source: asked.octet(0),
-        kind: asked.octet(1),
-        lasts: asked.octet(2),
+        source: a.octet(0),
+        kind: a.octet(1),
+        lasts: a.octet(2),
     };
-    let mut body = [0u8; 600];
-    let room = asked.slot(3);
-    let answer = breaks::write(&mut body[0..room], value);
-    wrote(answer, &body, out)
+    let room = a.slot(3, octets.len());
+    answer::of_writing(breaks::write(&mut octets[0..room], value))
 }
 
-// Puts a slip's values.
-fn says_slip(slip: Slip, out: &mut [u8]) -> usize {
-    let ok = words::put(out, 0, b"ok");
-    let identifier = octet(out, ok, slip.identifier);
-    let kind = octet(out, identifier, slip.kind);
-    let first = words::decimal(out, kind, slip.first as u64);
-    let second = words::decimal(out, first, slip.second as u64);
-    octet(out, second, slip.reason)
+// The five values of a slip.
+fn of_slip(s: Slip) -> Numbers {
+    let mut values = [0u64; 18];
+    values[0] = s.identifier as u64;
+    values[1] = s.kind as u64;
+    values[2] = s.count1 as u64;
+    values[3] = s.count2 as u64;
+    values[4] = s.reason as u64;
+    Numbers { values, count: 5 }
 }
 
 // `slip read OCTETS`
-fn read_slip(s: &[u8], at: usize, out: &mut [u8]) -> usize {
-    let mut body = [0u8; 600];
-    let asked = words::read(s, at, b"o", &mut body);
-    if !asked.good {
-        return 0;
-    }
-    let size = asked.size;
-    let reading = slip::read(&body[0..size]);
+fn read_slip(body: &[u8], out: &mut [u8]) -> Reply {
+    let reading = slip::read(body);
     match reading {
-        slip::Reading::Refused(r) => words::refusal(out, r),
-        slip::Reading::Says(v) => says_slip(v, out),
+        slip::Reading::Refused(r) => Reply::Refused(r),
+        slip::Reading::Says(s) => Reply::Put(words::put_numbers(out, of_slip(s))),
     }
 }
 
-// Makes the call of a line whose first word is `name`; the others begin at `at`.
-pub fn call(name: &[u8], s: &[u8], at: usize, out: &mut [u8]) -> usize {
-    let word = words::next(s, at);
-    let start = word.from;
-    let end = word.to;
-    let verb = &s[start..end];
-    let reads = words::same(verb, b"read");
-    let writes = words::same(verb, b"write");
-    if words::same(name, b"connect") & reads {
-        return read_connect(s, end, out);
+// The words of a line from `at` on, which says what to do with a CONNECT (2), a BREAK (3) or a slip (4).
+fn arguments(body: u8, s: &[u8], at: usize, octets: &mut [u8]) -> Arguments {
+    match body {
+        2 => words::call(s, at, b"read o write bbbbwwffffffwwbbwwr", octets),
+        3 => words::call(s, at, b"read o write bbbr", octets),
+        _ => words::call(s, at, b"read o", octets),
     }
-    if words::same(name, b"connect") & writes {
-        return write_connect(s, end, out);
+}
+
+// Reads the first octets as a body or a slip.
+fn read(body: u8, octets: &[u8], out: &mut [u8]) -> Reply {
+    match body {
+        2 => read_connect(octets, out),
+        3 => read_break(octets, out),
+        _ => read_slip(octets, out),
     }
-    if words::same(name, b"break") & reads {
-        return read_break(s, end, out);
+}
+
+// Writes a body.
+fn write(body: u8, a: Arguments, octets: &mut [u8]) -> Reply {
+    if body == 2 {
+        return write_connect(a, octets);
     }
-    if words::same(name, b"break") & writes {
-        return write_break(s, end, out);
+    write_break(a, octets)
+}
+
+// Makes the call of a line whose first word names a body or a slip.
+pub fn call(first: Arguments, s: &[u8], octets: &mut [u8], out: &mut [u8]) -> Reply {
+    if first.fault != 0 {
+        return Reply::NoCall(first.fault);
     }
-    if words::same(name, b"slip") & reads {
-        return read_slip(s, end, out);
+    let a = arguments(first.call, s, first.long(0) as usize, octets);
+    let size = a.size;
+    if a.fault != 0 {
+        return Reply::NoCall(a.fault);
     }
-    0
+    if a.call == 1 {
+        return write(first.call, a, octets);
+    }
+    if octets.len() < size {
+        return Reply::NoCall(answer::TOO_LONG);
+    }
+    read(first.call, &octets[0..size], out)
 }

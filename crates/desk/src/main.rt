@@ -1,196 +1,177 @@
 // The desk: it reads a script of calls on standard input, makes each call at one of two gateways, A and B, and writes one line
 // of answer for each. It decides nothing: it reads a line, makes the call, and writes what the call answered. docs/SCRIPT.md
 // says what a line may be.
+use answer::Reply;
 use book::Book;
 use script::Script;
+use words::Arguments;
 
+mod answer; // answer.rt: the words of an answer
 mod bodies; // bodies.rt: CONNECT, BREAK and slips
-mod calls; // calls.rt: the calls at a gateway
+mod commands; // commands.rt: the calls at a gateway
 mod record; // record.rt: `spoil`, one part of a line's record
-mod says; // says.rt: the words of their answers
 mod script; // script.rt: the script's octets, cut into lines
 mod sides; // sides.rt: `spoil`, one part of a channel's sides
 mod spoil; // spoil.rt: `spoil`, the part of a book that it names
 
-// A gateway: its book, and how many octets of its store are lent.
+// A gateway: its book, how many octets of its store are lent, and what its last call is answered.
 pub struct Seat {
     pub book: Book,
     pub lent: usize,
+    pub reply: Reply,
 }
 
-// A gateway after a line, and how many octets its answer has. None: the line was no call.
-pub struct Sat {
-    pub seat: Seat,
-    pub said: usize,
-}
-
-pub struct Desk {
-    pub a: Seat,
-    pub b: Seat,
-}
-
-// The desk after a line, and how many octets its answer has. None: the line was no call.
-pub struct Done {
-    pub desk: Desk,
-    pub said: usize,
-}
-
-// The desk and the line that is being read.
-struct Turn {
-    desk: Desk,
+// The two gateways, the line that is being read, and what the last one is answered.
+struct Desk {
+    a: Seat,
+    b: Seat,
     script: Script,
-    // The script goes on.
-    more: bool,
+    reply: Reply,
 }
 
 impl Seat {
     // A fresh book, and the store lent whole.
     pub fn fresh() -> Seat {
         let book = gateway::fresh();
-        Seat { book, lent: 42240 }
+        Seat {
+            book,
+            lent: 42240,
+            reply: Reply::Text(answer::OK),
+        }
+    }
+
+    // After a call.
+    pub fn with(self, book: Book, reply: Reply) -> Seat {
+        Seat {
+            book,
+            reply,
+            lent: self.lent,
+        }
+    }
+
+    // After a line that is no call.
+    pub fn no_call(self, reason: u8) -> Seat {
+        Seat {
+            reply: Reply::NoCall(reason),
+            ..self
+        }
     }
 }
 
-// Makes the call of a line, with its answer put into `out`.
-fn call(desk: Desk, a: &mut [u8], b: &mut [u8], s: &[u8], out: &mut [u8]) -> Done {
-    let word = words::next(s, 0);
-    let from = word.from;
-    let to = word.to;
-    let name = &s[from..to];
-    if words::same(name, b"A") {
-        let seat = desk.a;
-        let sat = calls::call(seat, a, s, to, out);
-        let next = sat.seat;
-        return Done {
-            desk: Desk { a: next, ..desk },
-            said: sat.said,
-        };
+impl Desk {
+    fn fresh() -> Desk {
+        let seat = Seat::fresh();
+        let script = Script::fresh();
+        Desk {
+            a: seat,
+            b: seat,
+            script,
+            reply: Reply::Text(answer::OK),
+        }
     }
-    if words::same(name, b"B") {
-        let seat = desk.b;
-        let sat = calls::call(seat, b, s, to, out);
-        let next = sat.seat;
-        return Done {
-            desk: Desk { b: next, ..desk },
-            said: sat.said,
-        };
-    }
-    let said = bodies::call(name, s, to, out);
-    Done { desk, said }
-}
 
-// Writes the answer's octets and a line feed.
-fn write(said: usize, out: &mut [u8]) {
-    let end = words::put(out, said, b"\n");
-    if end <= out.len() {
-        io::write_all(libc::STDOUT_FILENO, &out[0..end]);
+    // After a call at A.
+    fn with_a(self, a: Seat) -> Desk {
+        let reply = a.reply;
+        Desk { a, reply, ..self }
+    }
+
+    // After a call at B.
+    fn with_b(self, b: Seat) -> Desk {
+        let reply = b.reply;
+        Desk { b, reply, ..self }
+    }
+
+    // After a line that names no gateway.
+    fn answered(self, reply: Reply) -> Desk {
+        Desk { reply, ..self }
     }
 }
 
-// Writes an answer, or that the line of that number was no call.
-fn answer(said: usize, number: u64, out: &mut [u8]) {
-    if said == 0 {
-        let mark = words::put(out, 0, b"?");
-        let end = words::decimal(out, mark, number);
-        write(end, out);
-        return;
-    }
-    write(said, out);
-}
-
-// A line has ended: it is answered, unless it is blank or a comment.
-fn ended(
+// Makes the call at one of the gateways that a line names. Half of the stores is A's and half is B's.
+fn at_gateway(
     desk: Desk,
-    script: Script,
-    a: &mut [u8],
-    b: &mut [u8],
+    first: Arguments,
+    s: &[u8],
+    stores: &mut [u8],
+    octets: &mut [u8],
+) -> Desk {
+    let at = first.long(0) as usize;
+    let half = stores.len() / 2;
+    if first.call == 0 {
+        let next = commands::call(desk.a, s, at, &mut stores[0..half], octets);
+        return desk.with_a(next);
+    }
+    let next = commands::call(desk.b, s, at, &mut stores[half..], octets);
+    desk.with_b(next)
+}
+
+// Makes the call of a line.
+fn call(desk: Desk, s: &[u8], stores: &mut [u8], octets: &mut [u8], out: &mut [u8]) -> Desk {
+    let first = words::call(s, 0, b"A * B * connect * break * slip *", octets);
+    if (first.fault == 0) & (first.call < 2) {
+        return at_gateway(desk, first, s, stores, octets);
+    }
+    desk.answered(bodies::call(first, s, octets, out))
+}
+
+// Makes the call of a line of so many octets, unless it is longer than the buffer.
+fn call_whole(
+    desk: Desk,
+    count: usize,
     line: &[u8],
+    stores: &mut [u8],
+    octets: &mut [u8],
     out: &mut [u8],
 ) -> Desk {
+    if line.len() < count {
+        return desk.answered(Reply::NoCall(answer::TOO_LONG));
+    }
+    call(desk, &line[0..count], stores, octets, out)
+}
+
+// A line of the script is answered, once it has ended and unless it is blank or a comment.
+fn serve(desk: Desk, line: &[u8], stores: &mut [u8], octets: &mut [u8], out: &mut [u8]) -> Desk {
+    let script = desk.script;
     if !script.answered() {
         return desk;
     }
-    let count = script.count;
-    if script.long {
-        answer(0, script.number, out);
-        return desk;
-    }
-    if line.len() < count {
-        answer(0, script.number, out);
-        return desk;
-    }
-    let done = call(desk, a, b, &line[0..count], out);
-    answer(done.said, script.number, out);
-    done.desk
+    let next = call_whole(desk, script.count, line, stores, octets, out);
+    let reply = next.reply;
+    answer::say(reply, script.number, octets, out);
+    next
 }
 
-// Reads the octets of a part of the script.
-fn through(
-    turn: Turn,
-    part: &[u8],
-    a: &mut [u8],
-    b: &mut [u8],
+// More of the script is read, up to the end of a line, and that line is answered.
+fn advance(
+    desk: Desk,
+    buffer: &mut [u8],
     line: &mut [u8],
+    stores: &mut [u8],
+    octets: &mut [u8],
     out: &mut [u8],
-) -> Turn {
-    let mut desk = turn.desk;
-    let mut script = turn.script;
-    let mut i = 0;
-    while i < part.len() {
-        let octet = part[i];
-        if octet == b'\n' {
-            desk = ended(desk, script, a, b, line, out);
-            script = script.next();
-        } else {
-            script = script.read(line, octet);
-        }
-        i += 1;
-    }
-    Turn {
-        desk,
-        script,
-        more: turn.more,
-    }
+) -> Desk {
+    let script = desk.script.advance(buffer, line);
+    serve(Desk { script, ..desk }, line, stores, octets, out)
 }
 
-// Reads one part of the script.
-fn part(turn: Turn, a: &mut [u8], b: &mut [u8], line: &mut [u8], out: &mut [u8]) -> Turn {
-    let mut buffer = io::buffer();
-    let got = libc::read(libc::STDIN_FILENO, &mut buffer);
-    if got <= 0 {
-        return Turn {
-            more: false,
-            ..turn
-        };
-    }
-    let n = io::count(got, &buffer);
-    through(turn, &buffer[0..n], a, b, line, out)
-}
-
-// Reads the script to its end, part by part. The last line may lack its line feed. A proved loop has to end, and nothing says
-// that a script does: the loop counts its turns down, from a number that no run uses up.
-fn run(a: &mut [u8], b: &mut [u8], line: &mut [u8], out: &mut [u8]) {
-    let seat = Seat::fresh();
-    let script = Script::fresh();
-    let mut turn = Turn {
-        desk: Desk { a: seat, b: seat },
-        script,
-        more: true,
-    };
+// Reads the script to its end, and answers it line by line.
+fn run(buffer: &mut [u8], line: &mut [u8], stores: &mut [u8], octets: &mut [u8], out: &mut [u8]) {
+    let mut desk = Desk::fresh();
     let mut turns = u64::MAX;
-    while 0 < turns && turn.more {
-        turn = part(turn, a, b, line, out);
-        turns -= 1;
+    while 0 < turns {
+        desk = advance(desk, buffer, line, stores, octets, out);
+        let script = desk.script;
+        turns = script.turns_left(turns);
     }
-    let script = turn.script.settled(line);
-    ended(turn.desk, script, a, b, line, out);
 }
 
 fn main() {
-    let mut a = [0u8; 42240];
-    let mut b = [0u8; 42240];
+    let mut buffer = io::buffer();
     let mut line = [0u8; 2000];
+    let mut stores = [0u8; 84480];
+    let mut octets = [0u8; 600];
     let mut out = [0u8; 1300];
-    run(&mut a, &mut b, &mut line, &mut out);
+    run(&mut buffer, &mut line, &mut stores, &mut octets, &mut out);
     io::write_all(libc::STDOUT_FILENO, b"end\n");
 }

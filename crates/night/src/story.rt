@@ -154,8 +154,8 @@ fn kept(tally: &mut [u64], slip: &[u8], line: u8, end: u8) {
             channel: 2,
             ..first
         };
-        first.back().add(tally, tally::SLIP, s.first as u64);
-        second.back().add(tally, tally::SLIP, s.second as u64);
+        first.back().add(tally, tally::SLIP, s.count1 as u64);
+        second.back().add(tally, tally::SLIP, s.count2 as u64);
     }
 }
 

@@ -1,5 +1,5 @@
 // The words of an answer, put one behind the other into an output of the desk. Where it is full, no more is put.
-use crate::next;
+use crate::digits;
 use ground::Refusal;
 
 // Puts one octet at a place, and answers the next place.
@@ -50,14 +50,55 @@ pub fn hexadecimal(out: &mut [u8], at: usize, octets: &[u8]) -> usize {
     n
 }
 
-// Puts the name of the refusal of a number: it is the word that begins nine octets further for each.
-fn name(out: &mut [u8], at: usize, number: u8) -> usize {
-    let names: &[u8] =
-        b"-        SHORT    FORM     TYPE     NOLINE   MODE     CHANNEL  SIZE     FULL     SPENT    NOTHING  ROOM     TAKEN    RANGE    CLOCK    RECOVERY LENGTH   RESERVED BOOK";
-    let word = next(names, 9 * number as usize);
-    let from = word.from;
-    let to = word.to;
-    put(out, at, &names[from..to])
+// Puts an octet at a place, if it is chosen, and answers the next place.
+fn chosen(out: &mut [u8], at: usize, value: u8, chosen: bool) -> usize {
+    if chosen {
+        return octet(out, at, value);
+    }
+    at
+}
+
+// Puts the i-th text of a list, where `|` parts them.
+pub fn listed(out: &mut [u8], at: usize, texts: &[u8], i: u8) -> usize {
+    let mut n = at;
+    let mut text = 0;
+    let mut k = 0;
+    while k < texts.len() {
+        let octet = texts[k];
+        let parts = octet == b'|';
+        n = chosen(out, n, octet, (text == i) & !parts);
+        text = std::num::wrapping_add_u8(text, parts as u8);
+        k += 1;
+    }
+    n
+}
+
+// Up to 18 numbers of an answer.
+pub struct Numbers {
+    pub values: [u64; 18],
+    pub count: usize,
+}
+
+impl Numbers {
+    // The i-th number.
+    fn number(self, i: usize) -> u64 {
+        if i < 18 {
+            return self.values[i];
+        }
+        0
+    }
+}
+
+// Puts `ok` and the numbers.
+pub fn put_numbers(out: &mut [u8], numbers: Numbers) -> usize {
+    let count = numbers.count;
+    let mut n = put(out, 0, b"ok");
+    let mut i = 0;
+    while i < count {
+        n = decimal(out, n, numbers.number(i));
+        i += 1;
+    }
+    n
 }
 
 // Puts a refusal: its number and its name.
@@ -65,6 +106,10 @@ pub fn refusal(out: &mut [u8], r: Refusal) -> usize {
     let number = ground::number(r);
     let at = put(out, 0, b"no");
     let at = decimal(out, at, number as u64);
-    let at = put(out, at, b" ");
-    name(out, at, number)
+    listed(
+        out,
+        at,
+        b"| SHORT| FORM| TYPE| NOLINE| MODE| CHANNEL| SIZE| FULL| SPENT| NOTHING| ROOM| TAKEN| RANGE| CLOCK| RECOVERY| LENGTH| RESERVED| BOOK",
+        number,
+    )
 }

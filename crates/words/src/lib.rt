@@ -5,14 +5,20 @@ ghost use lib.ListN.{length};
 ghost use Rattle.words.specs.Words.{Within};
 
 mod answer; // answer.rt: the words of an answer
-mod asked; // asked.rt: the words that a call asks for, all at once
+mod arguments; // arguments.rt: the words that a call asks for, all at once
+mod digits; // digits.rt: what digits say
 
+pub use answer::Numbers;
 pub use answer::decimal;
 pub use answer::hexadecimal;
+pub use answer::listed;
 pub use answer::put;
+pub use answer::put_numbers;
 pub use answer::refusal;
-pub use asked::Asked;
-pub use asked::read;
+pub use arguments::Arguments;
+pub use arguments::UNKNOWN;
+pub use arguments::call;
+pub use arguments::read;
 pub use digits::Number;
 pub use digits::read_number;
 
@@ -33,29 +39,14 @@ pub fn parts(octet: u8) -> bool {
     (octet == b' ') | (octet == b'\t')
 }
 
-// Where the next word begins, from `at` on.
-fn begins(s: &[u8], at: usize) -> usize
+// How far octets go on from `at` that part words, or that do not.
+fn past(s: &[u8], at: usize, parting: bool) -> usize
     requires { ⌜ at ≤ length (now s) ⌝ }
     ensures { λ r. ⌜ (at ≤ r) × (r ≤ length (now (s .entry))) ⌝ }
 {
     let mut i = at;
     while i < s.len() {
-        if !parts(s[i]) {
-            return i;
-        }
-        i += 1;
-    }
-    i
-}
-
-// Where the word ends that begins at `at`.
-fn ends(s: &[u8], at: usize) -> usize
-    requires { ⌜ at ≤ length (now s) ⌝ }
-    ensures { λ r. ⌜ (at ≤ r) × (r ≤ length (now (s .entry))) ⌝ }
-{
-    let mut i = at;
-    while i < s.len() {
-        if parts(s[i]) {
+        if parts(s[i]) != parting {
             return i;
         }
         i += 1;
@@ -71,8 +62,8 @@ pub fn next(s: &[u8], at: usize) -> Word
     if end < at {
         return Word { from: end, to: end };
     }
-    let from = begins(s, at);
-    let to = ends(s, from);
+    let from = past(s, at, true);
+    let to = past(s, from, false);
     Word { from, to }
 }
 
