@@ -28,24 +28,26 @@ for script in tests/desk/*.script; do
 done
 
 # Message n of a channel is taken at A, sent, arrives at B and is handed out there; the answer acknowledges it and moves the base.
-stream() {
-    printf '%s\n' 'A open 0 5 98 1 1 0' 'B open 3 5 98 1 1 0' 'A ask 0 m 0' 'B ask 3 m 0' >&3
-    printf '%s\n' ok ok 'ok m' 'ok m' >&4
-    local n c word message packet news
-    for ((n = 0; n < 16420; n++)); do
-        for c in 1 2; do
-            printf -v word '%04X' $((c * 16384 + n % 16384))
-            printf -v message '%06X' $((n * 3 + c))
-            packet="0562${word}0000${message}"
-            printf -v news '0562%04X%04X%s' $((c * 16384)) $((16384 + (n + 1) % 16384)) "$word"
-            printf '%s\n' "A take 0 $c $message" "A send 0 $c 0" "B arrive $packet" "B out 3 $c" "B empty 3 $c" "A arrive $news" >&3
-            printf '%s\n' ok "ok $packet" ok "ok $message" "ok $news" ok >&4
-        done
-    done
-    printf '%s\n' 'A held 0 1' 'A held 0 2' 'B close 3' >&3
-    printf '%s\n' 'ok 0' 'ok 0' 'ok 10B880100900100900000000' end >&4
+stream() { # SCRIPT EXPECTED
+    awk -v script="$1" -v expected="$2" '
+        function call(words, answer) { print words > script; print answer > expected }
+        BEGIN {
+            call("A open 0 5 98 1 1 0", "ok"); call("B open 3 5 98 1 1 0", "ok")
+            call("A ask 0 m 0", "ok m"); call("B ask 3 m 0", "ok m")
+            for (n = 0; n < 16420; n++) for (c = 1; c <= 2; c++) {
+                word = sprintf("%04X", c * 16384 + n % 16384)
+                message = sprintf("%06X", n * 3 + c)
+                packet = "0562" word "0000" message
+                news = sprintf("0562%04X%04X%s", c * 16384, 16384 + (n + 1) % 16384, word)
+                call("A take 0 " c " " message, "ok"); call("A send 0 " c " 0", "ok " packet)
+                call("B arrive " packet, "ok"); call("B out 3 " c, "ok " message)
+                call("B empty 3 " c, "ok " news); call("A arrive " news, "ok")
+            }
+            call("A held 0 1", "ok 0"); call("A held 0 2", "ok 0"); call("B close 3", "ok 10B880100900100900000000")
+            print "end" > expected
+        }'
 }
-stream 3> "$log/script" 4> "$log/expected"
+stream "$log/script" "$log/expected"
 run desk < "$log/script" > "$log/given"
 held "stream" "$log/expected" "$log/given"
 exit "$bad"
