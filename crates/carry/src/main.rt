@@ -310,7 +310,7 @@ fn argument(i: usize, other: u64) -> u64 {
     }
 }
 
-// How many octets of a message's room are lent.
+// How many octets of a message's slot are lent.
 fn lent(asked: u64) -> usize
     ensures { λ r. ⌜ r ≤ 132 ⌝ }
 {

@@ -76,8 +76,8 @@ fn read_connect(body: &[u8], out: &mut [u8]) -> Reply {
 
 // `connect write V1 .. V18 [ROOM]`
 fn write_connect(a: Arguments, octets: &mut [u8]) -> Reply {
-    let room = a.slot(18, octets.len());
-    answer::of_writing(connect::write(&mut octets[0..room], connect_of(a)))
+    let space = a.space(18, octets.len());
+    answer::of_writing(connect::write(&mut octets[0..space], connect_of(a)))
 }
 
 // The three values of a BREAK.
@@ -105,8 +105,8 @@ fn write_break(a: Arguments, octets: &mut [u8]) -> Reply {
         kind: a.octet(1),
         lasts: a.octet(2),
     };
-    let room = a.slot(3, octets.len());
-    answer::of_writing(breaks::write(&mut octets[0..room], value))
+    let space = a.space(3, octets.len());
+    answer::of_writing(breaks::write(&mut octets[0..space], value))
 }
 
 // The five values of a slip.

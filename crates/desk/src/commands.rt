@@ -23,8 +23,8 @@ fn open(seat: Seat, a: Arguments) -> Seat {
 
 // `close LINE [ROOM]`
 fn close(seat: Seat, a: Arguments, octets: &mut [u8]) -> Seat {
-    let room = a.slot(1, octets.len());
-    let gave = gateway::close(seat.book, a.octet(0), &mut octets[0..room]);
+    let space = a.space(1, octets.len());
+    let gave = gateway::close(seat.book, a.octet(0), &mut octets[0..space]);
     let answer = gave.answer;
     let book = gave.book;
     seat.with(book, answer::of_writing(answer))
@@ -62,8 +62,8 @@ fn held(seat: Seat, a: Arguments) -> Seat {
 
 // `empty LINE CHANNEL [ROOM]`
 fn empty(seat: Seat, a: Arguments, octets: &mut [u8]) -> Seat {
-    let room = a.slot(2, octets.len());
-    let gave = gateway::empty(seat.book, a.octet(0), a.octet(1), &mut octets[0..room]);
+    let space = a.space(2, octets.len());
+    let gave = gateway::empty(seat.book, a.octet(0), a.octet(1), &mut octets[0..space]);
     let answer = gave.answer;
     let book = gave.book;
     seat.with(book, answer::of_writing(answer))
@@ -79,14 +79,14 @@ fn take(seat: Seat, a: Arguments, store: &mut [u8], message: &[u8]) -> Seat {
 
 // `send LINE CHANNEL RANK [ROOM]`
 fn send(seat: Seat, a: Arguments, store: &[u8], octets: &mut [u8]) -> Seat {
-    let room = a.slot(3, octets.len());
+    let space = a.space(3, octets.len());
     let gave = gateway::send(
         seat.book,
         store,
         a.octet(0),
         a.octet(1),
         a.octet(2),
-        &mut octets[0..room],
+        &mut octets[0..space],
     );
     let answer = gave.answer;
     let book = gave.book;
@@ -103,13 +103,13 @@ fn arrive(seat: Seat, store: &mut [u8], packet: &[u8]) -> Seat {
 
 // `out LINE CHANNEL [ROOM]`
 fn hand_out(seat: Seat, a: Arguments, store: &[u8], octets: &mut [u8]) -> Seat {
-    let room = a.slot(2, octets.len());
+    let space = a.space(2, octets.len());
     let gave = gateway::hand_out(
         seat.book,
         store,
         a.octet(0),
         a.octet(1),
-        &mut octets[0..room],
+        &mut octets[0..space],
     );
     let answer = gave.answer;
     let book = gave.book;

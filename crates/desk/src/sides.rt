@@ -129,7 +129,7 @@ pub fn set(l: Line, a: Arguments) -> Line {
     l.with_receiving(channel, with_received(side, channel, a))
 }
 
-// How many of a message's octets are put into its room: at most 132 of those that there are.
+// How many of a message's octets are put into its slot: at most 132 of those that there are.
 fn kept(size: usize, most: usize) -> usize
     ensures { λ r. ⌜ r ≤ most ⌝ }
 {
@@ -142,22 +142,22 @@ fn kept(size: usize, most: usize) -> usize
     132
 }
 
-// Where the room of a place begins in the store.
-fn room_at(i: u8, way: Way, channel: u8, place: u32) -> usize
+// Where the slot of a place begins in the store.
+fn slot_at(i: u8, way: Way, channel: u8, place: u32) -> usize
     requires { ⌜ place < 32 ⌝ }
 {
     Region::of(i & 3, way, channel).slot(place)
 }
 
-// Puts the octets of a message into the room of its place.
+// Puts the octets of a message into the slot of its place.
 fn lay(i: u8, way: Way, a: Arguments, store: &mut [u8], octets: &[u8]) {
     let channel = a.octet(0);
-    let at = room_at(i, way, channel, less(channel, a.full(1)));
+    let at = slot_at(i, way, channel, less(channel, a.full(1)));
     let size = kept(a.size, octets.len());
     words::put(store, at, &octets[0..size]);
 }
 
-// Puts the octets of a message that is to be held or stored into its room.
+// Puts the octets of a message that is to be held or stored into its slot.
 pub fn put(i: u8, a: Arguments, store: &mut [u8], octets: &[u8]) {
     let call = a.call;
     match call {

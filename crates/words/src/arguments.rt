@@ -4,7 +4,7 @@
 //     l a line, 0 to 3         c a channel, 1 or 2     e a channel, 0 to 3     n a number of 14 bits
 //     i an owed entry, 0 to 63     j a resting one, 0 to 15     s octets of the store, 0 to 42,240
 //     m a mode's letter        k a mode's letter or its number of 8 bits
-//     o octets                 r the room for output, at most 600; 256 where it is left out
+//     o octets                 r the space of the output, at most 600; 256 where it is left out
 //     . nothing                * the rest of the line, whatever it says: the value is where it begins
 ghost use mathlib.Core.Path.{_≡_};
 ghost use Prim.Native.Nat.{_≤_};
@@ -288,8 +288,8 @@ impl Arguments {
         self.long(i) == 1
     }
 
-    // The i-th value as a room, of at most so many octets.
-    pub fn room(self, i: usize, most: usize) -> usize
+    // The i-th value as an output's space, of at most so many octets.
+    pub fn space(self, i: usize, most: usize) -> usize
         ensures { λ r. ⌜ r ≤ most ⌝ }
     {
         let n = self.long(i) as usize;
