@@ -30,10 +30,10 @@ fn kind_at(s: &[u8]) -> u8
 pub fn may_arrive(l: Line, s: &[u8]) -> Verdict
     ensures { λ r. ⌜ r ≡ verdict (arriveTests l (now (s .entry))) ⌝ }
 {
-    if kind_at(s) == l.kind {} else {
+    if kind_at(s) != l.kind {
         return Verdict::Refuse(Refusal::TYPE);
     }
-    if l.modes.local == Modes::MODEM {} else {
+    if l.modes.local != Modes::MODEM {
         return Verdict::Refuse(Refusal::MODE);
     }
     let list = packet::read_acks(s);

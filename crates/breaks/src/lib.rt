@@ -66,7 +66,7 @@ pub fn read(s: &[u8]) -> Reading
 fn write_verdict(b: Break, space: usize) -> Verdict
     ensures { λ r. ⌜ r ≡ verdict (writeTests b space) ⌝ }
 {
-    if break_fits(b) {} else {
+    if !break_fits(b) {
         return Verdict::Refuse(Refusal::RANGE);
     }
     if 2 <= space {

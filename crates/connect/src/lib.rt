@@ -249,7 +249,8 @@ fn write_verdict(c: Connect, space: usize) -> Verdict
     if (4 <= compression) & (compression <= 15) {
         return Verdict::Refuse(Refusal::RESERVED);
     }
-    if numbers_fit(c) & sizes_fit(c) {} else {
+    let fit = numbers_fit(c) & sizes_fit(c);
+    if !fit {
         return Verdict::Refuse(Refusal::RANGE);
     }
     if size_of(compression) <= space {

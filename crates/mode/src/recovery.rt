@@ -49,7 +49,7 @@ fn due(modes: Modes, time: u64) -> bool
 fn ticked_modes(modes: Modes, time: u64) -> Modes
     ensures { λ r. ⌜ r ≡ tickedModes modes time ⌝ }
 {
-    if due(modes, time) {} else {
+    if !due(modes, time) {
         return modes.stayed(time);
     }
     let tries = modes.tries;
@@ -71,7 +71,7 @@ fn ticked_answer(modes: Modes, time: u64) -> TickAnswer
     if modes.ended() {
         return TickAnswer::Ended;
     }
-    if due(modes, time) {} else {
+    if !due(modes, time) {
         return TickAnswer::Quiet;
     }
     let tries = modes.tries;

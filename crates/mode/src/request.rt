@@ -30,10 +30,10 @@ fn ask_verdict(modes: Modes, mode: u8, time: u64) -> Verdict
     if time < modes.last {
         return Verdict::Refuse(Refusal::CLOCK);
     }
-    if modes.tries == 0 {} else {
+    if modes.tries != 0 {
         return Verdict::Refuse(Refusal::RECOVERY);
     }
-    if offers(modes, mode) {} else {
+    if !offers(modes, mode) {
         return Verdict::Refuse(Refusal::RANGE);
     }
     if (mode == Modes::MODEM) & modes.left {

@@ -59,14 +59,15 @@ fn write_verdict(h: Head, a: Acks, payload: &[u8], largest: usize, space: usize)
     ensures { λ r. ⌜ r ≡ verdict (writeTests h a (now (payload .entry)) largest space) ⌝ }
 {
     let n = payload.len();
-    if fields_fit(h, a, n) {} else {
+    if !fields_fit(h, a, n) {
         return Verdict::Refuse(Refusal::RANGE);
     }
     let served = crate::acks_served(a);
-    if (h.channel < 3) & served {} else {
+    let channels = (h.channel < 3) & served;
+    if !channels {
         return Verdict::Refuse(Refusal::CHANNEL);
     }
-    if crate::size_fits(h.channel, n, largest) {} else {
+    if !crate::size_fits(h.channel, n, largest) {
         return Verdict::Refuse(Refusal::SIZE);
     }
     if 6 + 2 * (a.count as usize) + n <= space {

@@ -78,7 +78,7 @@ fn read_verdict(s: &[u8]) -> Verdict
     if s.len() != 12 {
         return Verdict::Refuse(Refusal::LENGTH);
     }
-    if form_fits(s) {} else {
+    if !form_fits(s) {
         return Verdict::Refuse(Refusal::FORM);
     }
     if slip_fits(slip_at(s)) {
@@ -101,7 +101,7 @@ pub fn read(s: &[u8]) -> Reading
 fn write_verdict(v: Slip, space: usize) -> Verdict
     ensures { λ r. ⌜ r ≡ verdict (writeTests v space) ⌝ }
 {
-    if slip_fits(v) {} else {
+    if !slip_fits(v) {
         return Verdict::Refuse(Refusal::RANGE);
     }
     if 12 <= space {

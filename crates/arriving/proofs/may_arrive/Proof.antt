@@ -12,11 +12,11 @@ kind-at-requires c κs = search needs
 
 returns : tie.Need-returns
 unfolding arriveTests
-returns c = simp (← c .before .before .kind-at .ensures, ne-eqb _ _ (c .if1 .left))
+returns c = simp (← c .before .before .kind-at .ensures, ne-eqb _ _ (c .if1 .taken))
 
 returns-2 : tie.Need-returns-2
 unfolding arriveTests
-returns-2 c = simp (← c .before .before .before .before .kind-at .ensures, eq-eqb _ _ (c .before .before .if1 .taken), ne-eqb _ _ (c .if2 .left))
+returns-2 c = simp (← c .before .before .before .before .kind-at .ensures, eq-eqb _ _ (c .before .before .if1 .left), ne-eqb _ _ (c .if2 .taken))
 
 read-acks-requires : tie.Need-read-acks-requires
 read-acks-requires c κs = search needs
@@ -33,17 +33,17 @@ payload-fits-requires c κs = search needs
 returns-3 : tie.Need-returns-3
 returns-3 c =
     let a = c .before .before .before .before .before .before .before .before .before .before .args in
-    arrive-refused (a .l) (now (a .s)) (sym (c .before .before .before .before .before .before .before .before .kind-at .ensures) ∙ c .before .before .before .before .before .before .if1 .taken) (c .before .before .before .before .if2 .taken) (list-refused (now (a .s)) (sym (c .before .before .before .read-acks .ensures .is) ∙ c .before .list .given .1))
+    arrive-refused (a .l) (now (a .s)) (sym (c .before .before .before .before .before .before .before .before .kind-at .ensures) ∙ c .before .before .before .before .before .before .if1 .left) (c .before .before .before .before .if2 .left) (list-refused (now (a .s)) (sym (c .before .before .before .read-acks .ensures .is) ∙ c .before .list .given .1))
 
 returns-4 : tie.Need-returns-4
 returns-4 c =
     let a = c .before .before .before .before .before .before .before .before .before .before .before .args in
-    arrive-passed (a .l) (now (a .s)) (sym (c .before .before .before .before .before .before .before .before .before .kind-at .ensures) ∙ c .before .before .before .before .before .before .before .if1 .taken) (c .before .before .before .before .before .if2 .taken) (list-said (now (a .s)) (sym (c .before .before .before .before .read-acks .ensures .is) ∙ c .before .before .enum-told .given .1)) (sym (c .before .payload-fits .ensures) ∙ c .if3 .taken)
+    arrive-passed (a .l) (now (a .s)) (sym (c .before .before .before .before .before .before .before .before .before .kind-at .ensures) ∙ c .before .before .before .before .before .before .before .if1 .left) (c .before .before .before .before .before .if2 .left) (list-said (now (a .s)) (sym (c .before .before .before .before .read-acks .ensures .is) ∙ c .before .before .enum-told .given .1)) (sym (c .before .payload-fits .ensures) ∙ c .if3 .taken)
 
 returns-5 : tie.Need-returns-5
 returns-5 c =
     let a = c .before .before .before .before .before .before .before .before .before .before .before .args in
-    arrive-large (a .l) (now (a .s)) (sym (c .before .before .before .before .before .before .before .before .before .kind-at .ensures) ∙ c .before .before .before .before .before .before .before .if1 .taken) (c .before .before .before .before .before .if2 .taken) (list-said (now (a .s)) (sym (c .before .before .before .before .read-acks .ensures .is) ∙ c .before .before .enum-told .given .1)) (sym (c .before .payload-fits .ensures) ∙ c .if3 .left)
+    arrive-large (a .l) (now (a .s)) (sym (c .before .before .before .before .before .before .before .before .before .kind-at .ensures) ∙ c .before .before .before .before .before .before .before .if1 .left) (c .before .before .before .before .before .if2 .left) (list-said (now (a .s)) (sym (c .before .before .before .before .read-acks .ensures .is) ∙ c .before .before .enum-told .given .1)) (sym (c .before .payload-fits .ensures) ∙ c .if3 .left)
 
 pub may-arrive-spec : {M : Type 1} → statement M
 may-arrive-spec =

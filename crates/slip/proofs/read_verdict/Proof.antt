@@ -1,3 +1,4 @@
+use borrow.Author.Tests.{not-true, not-false}
 use mathlib.Core.Path.{ap, _∙_}
 use borrow.Author.Tests.{eq-eqb, ne-eqb}
 use Rattle.slip.specs.Slip.{slipFits}
@@ -12,7 +13,7 @@ form-fits-requires : tie.Need-form-fits-requires
 form-fits-requires c κs = search needs
 
 returns-2 : tie.Need-returns-2
-returns-2 c = simp (eq-eqb _ _ (c .before .before .if1 .left), ← c .before .form-fits .ensures, c .if2 .left)
+returns-2 c = simp (eq-eqb _ _ (c .before .before .if1 .left), ← c .before .form-fits .ensures, not-true (c .before .form-fits .result) (c .if2 .taken))
 
 slip-at-requires : tie.Need-slip-at-requires
 slip-at-requires c κs = search needs
@@ -22,11 +23,11 @@ slip-fits-requires c κs = search needs
 
 returns-3 : tie.Need-returns-3
 returns-3 c =
-    simp (eq-eqb _ _ (c .before .before .before .before .before .if1 .left), ← c .before .before .before .before .form-fits .ensures, c .before .before .before .if2 .taken, ← (c .before .slip-fits .ensures ∙ ap slipFits (c .before .before .slip-at .ensures)), c .if3 .taken)
+    simp (eq-eqb _ _ (c .before .before .before .before .before .if1 .left), ← c .before .before .before .before .form-fits .ensures, not-false (c .before .before .before .before .form-fits .result) (c .before .before .before .if2 .left), ← (c .before .slip-fits .ensures ∙ ap slipFits (c .before .before .slip-at .ensures)), c .if3 .taken)
 
 returns-4 : tie.Need-returns-4
 returns-4 c =
-    simp (eq-eqb _ _ (c .before .before .before .before .before .if1 .left), ← c .before .before .before .before .form-fits .ensures, c .before .before .before .if2 .taken, ← (c .before .slip-fits .ensures ∙ ap slipFits (c .before .before .slip-at .ensures)), c .if3 .left)
+    simp (eq-eqb _ _ (c .before .before .before .before .before .if1 .left), ← c .before .before .before .before .form-fits .ensures, not-false (c .before .before .before .before .form-fits .result) (c .before .before .before .if2 .left), ← (c .before .slip-fits .ensures ∙ ap slipFits (c .before .before .slip-at .ensures)), c .if3 .left)
 
 pub read-verdict-spec : {M : Type 1} → statement M
 read-verdict-spec =

@@ -1,3 +1,4 @@
+use borrow.Author.Tests.{not-true, not-false}
 -- `ticked_answer` meets its contract: each return is one case of the definition; the count fits, since the line has not ended.
 -- Assumes nothing.
 use borrow.Author.Tests.{eq-eqb, ne-eqb}
@@ -21,11 +22,11 @@ due-requires c κs = search needs
 
 returns-2 : tie.Need-returns-2
 unfolding tickedAnswer
-returns-2 c = simp (← c .before .before .before .ended .ensures, c .before .before .if1 .left, ← c .before .due .ensures, c .if2 .left)
+returns-2 c = simp (← c .before .before .before .ended .ensures, c .before .before .if1 .left, ← c .before .due .ensures, not-true (c .before .due .result) (c .if2 .taken))
 
 returns-3 : tie.Need-returns-3
 unfolding tickedAnswer
-returns-3 c = simp (← c .before .before .before .before .ended .ensures, c .before .before .before .if1 .left, ← c .before .before .due .ensures, c .before .if2 .taken, eq-eqb _ _ (c .if3 .taken))
+returns-3 c = simp (← c .before .before .before .before .ended .ensures, c .before .before .before .if1 .left, ← c .before .before .due .ensures, not-false (c .before .before .due .result) (c .before .if2 .left), eq-eqb _ _ (c .if3 .taken))
 
 add-t7 : tie.Need-add-t7
 add-t7 c =
@@ -34,7 +35,7 @@ add-t7 c =
 
 returns-4 : tie.Need-returns-4
 unfolding tickedAnswer
-returns-4 c = simp (← c .before .before .before .before .ended .ensures, c .before .before .before .if1 .left, ← c .before .before .due .ensures, c .before .if2 .taken, ne-eqb _ _ (c .if3 .left))
+returns-4 c = simp (← c .before .before .before .before .ended .ensures, c .before .before .before .if1 .left, ← c .before .before .due .ensures, not-false (c .before .before .due .result) (c .before .if2 .left), ne-eqb _ _ (c .if3 .left))
 
 pub ticked-answer-spec : {M : Type 1} → statement M
 ticked-answer-spec =
