@@ -6,7 +6,7 @@ set -u
 cd "$(dirname "$0")/.." || exit 2
 # shellcheck source=tests/crates.bash
 . tests/crates.bash
-inner=(places channel sending receiving owed resting store relay writing laden effect arriving book digits)
+inner=(places channel sending receiving owed store relay writing arriving book words)
 mapfile -t crates < <(listed)
 [ "${#crates[@]}" -gt 0 ] || { echo "crates.txt lists nothing"; exit 1; }
 bad=0
