@@ -1,20 +1,21 @@
 -- What the first tests of a call give, once they pass: a book that fits, a line number that is one, a line that fits.
 -- Assumes nothing.
 use Prim.Native.Nat.{ℕ, _≤_, _<_}
-use mathlib.Core.Path.{_≡_}
+use mathlib.Core.Path.{_≡_, sym, ap, _∙_}
 use mathlib.Core.Bool.{true}
 use mathlib.Core.List.{List, [], _∷_}
 use native.Mathlib.Omega.{arith}
 use lib.Dec.{leb}
 use borrow.Author.Tests.{leb-true}
 use Rattle.ground.specs.Refusal.{Test, verdict}
+use Rattle.ground.specs.declared.Verdict.{Verdict}
 use Rattle.ground.specs.declared.Verdict.the-variants.{Pass}
 use Rattle.ground.proofs.Verdicts.{passed, pass-both}
 use Rattle.line.specs.Fit.{lineFits}
 use Rattle.book.specs.Book.{lineOf, bookFits}
 use Rattle.book.specs.declared.Book.{Book}
 use Rattle.book.proofs.Facts.{book-ok, line-fits}
-use Rattle.calls.specs.Order.{fitBook, roomy, lineNumber}
+use Rattle.calls.specs.Parts.{fitBook, roomy, lineNumber, isOpen}
 
 pub record OnLine (b : Book) (i : ℕ) : Type 0 where
   pub book : bookFits b ≡ true
@@ -48,3 +49,15 @@ both-passed b n i ts e =
     let p = pass-both (fitBook b ∷ roomy n ∷ lineNumber i ∷ []) ts e in
     let o = on-both b n i (p .0) in
     (o .0, o .1, p .1)
+
+-- the same of a call's whole list, once the code has worked out its verdict
+module _ {b : Book} {i : ℕ} {ts whole : List Test} {v : Verdict} where
+  pub asked-line : whole ≡ (fitBook b ∷ lineNumber i ∷ ts) → v ≡ verdict whole → v ≡ Pass → OnLine b i × (verdict ts ≡ Pass)
+  asked-line parts e p = line-passed b i ts (sym (ap verdict parts) ∙ sym e ∙ p)
+
+  pub asked-both : (n : ℕ) → whole ≡ (fitBook b ∷ roomy n ∷ lineNumber i ∷ ts) → v ≡ verdict whole → v ≡ Pass → OnLine b i × (42240 ≤ n) × (verdict ts ≡ Pass)
+  asked-both n parts e p = both-passed b n i ts (sym (ap verdict parts) ∙ sym e ∙ p)
+
+-- and of what a mode call asks before its own tests
+pub asked-open : (b : Book) (i : ℕ) {v : Verdict} → v ≡ verdict (fitBook b ∷ lineNumber i ∷ isOpen (lineOf b i) ∷ []) → v ≡ Pass → OnLine b i
+asked-open b i e p = line-passed b i (isOpen (lineOf b i) ∷ []) (sym e ∙ p) .0

@@ -1,3 +1,5 @@
 pub mod FirstTests
-pub mod Results
+pub mod OrderParts
 pub mod Refusing
+pub mod Results
+pub mod Stops

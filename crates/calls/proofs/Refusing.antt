@@ -9,7 +9,7 @@ use Rattle.ground.specs.Refusal.{verdict}
 use Rattle.ground.proofs.Settled.{settled-by}
 use Rattle.book.specs.declared.Book.{Book}
 use Rattle.calls.specs.Call.{Call}
-use Rattle.calls.specs.Order.{tests}
+use Rattle.calls.specs.Order.{order}
 use Rattle.calls.specs.Result.{CallResult, resultOf, acceptedResult}
 
 -- nothing but a number was answered, and book, store and output are what they were
@@ -22,6 +22,6 @@ pub record Unchanged (b : Book) (s o : List ℕ) (d : CallResult) : Type 0 where
 pub refusal-changes-nothing : (c : Call) (b : Book) (store out : List ℕ) → 0 < resultOf c b store out .answer .number → Unchanged b store out (resultOf c b store out)
 unfolding resultOf acceptedResult
 refusal-changes-nothing c b store out =
-    settled-by (λ (d : CallResult). 0 < d .answer .number → Unchanged b store out d) (verdict (tests c b (length store) (length out)))
+    settled-by (λ (d : CallResult). 0 < d .answer .number → Unchanged b store out d) (verdict (order c b (length store) (length out)))
     (λ r e n. record { alone = refl; book = refl; store = refl; out = refl })
     (λ e n. absurd (omega arith))

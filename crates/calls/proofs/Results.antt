@@ -2,16 +2,15 @@
 -- Assumes nothing.
 use Prim.Native.Nat.{ℕ}
 use mathlib.Core.Path.{_≡_, refl, sym, ap, _∙_}
-use mathlib.Core.List.{List, [], _∷_}
+use mathlib.Core.List.{List, [], _∷_, _++_}
 use lib.ListN.{length}
 use lib.Seq.{set-getD}
-use Rattle.ground.specs.Refusal.{verdict, settle}
+use Rattle.ground.specs.Refusal.{Test, verdict, settle}
 use Rattle.ground.specs.Answer.{Answer, accepted, refused}
 use Rattle.ground.specs.declared.Refusal.{Refusal}
 use Rattle.ground.specs.declared.Verdict.{Verdict}
 use Rattle.ground.specs.declared.Verdict.the-variants.{Pass, Refuse}
-use Rattle.ground.proofs.Verdicts.{verdict-on}
-use Rattle.mode.specs.Acts.{Act, outcome}
+use Rattle.mode.specs.Acts.{Act, Outcome, outcome}
 use Rattle.mode.specs.Acts as act
 use Rattle.mode.specs.Indication.{hearStep}
 use Rattle.mode.specs.Request.{askStep}
@@ -21,16 +20,20 @@ use Rattle.mode.specs.declared.Modes.{Modes}
 use Rattle.mode.specs.declared.Channels.the-variants.{Stay}
 use Rattle.line.specs.Line.{closedLine}
 use Rattle.line.specs.Mode.{steppedTo}
+use Rattle.line.specs.declared.Line.{Line}
 use Rattle.book.specs.Book.{lineOf, withLine}
 use Rattle.book.specs.declared.Book.{Book}
 use Rattle.calls.specs.Call.{Call}
 use Rattle.calls.specs.Call as call
-use Rattle.calls.specs.Order.{tests, fitBook, lineNumber, isOpen, actTests, modeTests, lineFor}
+use Rattle.calls.specs.Order.{order, lineFor}
+use Rattle.calls.specs.Parts.{tests, fitBook, lineNumber, isOpen, actTests, modeTests}
+use Rattle.calls.proofs.OrderParts.{order-parts}
+use Rattle.calls.proofs.Stops.{stops, goes-on}
 use Rattle.calls.specs.Result.{CallResult, resultWith, resultOf, acceptedResult, effect}
 
 module _ (c : Call) (b : Book) (store out : List ℕ) where
   abbrev its : Verdict
-  its = verdict (tests c b (length store) (length out))
+  its = verdict (order c b (length store) (length out))
 
   -- "Each refusal returns its number alone and changes neither book nor any octet"
   pub did-refused : {r : Refusal} → its ≡ Refuse r → resultOf c b store out ≡ resultWith (refused r) b store out
@@ -58,22 +61,42 @@ settles m (act.tick time) = record { taken = λ e. rw (e, answer-says m time); s
 pub same-line : (b : Book) (i : ℕ) → withLine b i (lineOf b i) ≡ b
 same-line b i = λ t. record { lines = set-getD (b .lines) i closedLine t; resting = b .resting; rested = b .rested }
 
--- a mode call, once the line is known to be there: the outcome of its modes, whatever that is, is what the call does
-module _ (b : Book) (i : ℕ) (a : Act) (store out : List ℕ) (there : verdict (fitBook b ∷ lineNumber i ∷ isOpen (lineOf b i) ∷ []) ≡ Pass) where
+-- The mode calls, whichever of the three it is: what they ask of the book is asked first, and then the outcome of the line's modes,
+-- whatever that is, is what the call does.
+module _ (b : Book) (i : ℕ) (a : Act) where
   abbrev m : Modes
   m = lineOf b i .modes
 
-  its-modes : verdict (tests (call.mode i a) b (length store) (length out)) ≡ verdict (actTests m a)
+  abbrev earlier : List Test
+  earlier = fitBook b ∷ lineNumber i ∷ isOpen (lineOf b i) ∷ []
+
+  mode-parts : (n space : ℕ) → order (call.mode i a) b n space ≡ earlier ++ actTests m a
   unfolding tests modeTests
-  its-modes = verdict-on (fitBook b ∷ lineNumber i ∷ isOpen (lineOf b i) ∷ []) (actTests m a) there
+  mode-parts n space = order-parts (call.mode i a) b n space
 
-  abbrev after : CallResult
-  after = let o = outcome m a in resultWith (o .said) (withLine b i (steppedTo (lineOf b i) (o .modes) (o .channels))) store out
+  abbrev after : List ℕ → List ℕ → CallResult
+  after store out = let o = outcome m a in resultWith (o .said) (withLine b i (steppedTo (lineOf b i) (o .modes) (o .channels))) store out
 
-  pub moved-did : after ≡ resultOf (call.mode i a) b store out
-  unfolding acceptedResult effect lineFor steppedTo
-  moved-did = go (verdict (actTests m a)) refl
-    where
-      go : (v : Verdict) → verdict (actTests m a) ≡ v → after ≡ resultOf (call.mode i a) b store out
-      go Pass e = ap (λ (s : Answer). resultWith s (withLine b i (steppedTo (lineOf b i) (outcome m a .modes) (outcome m a .channels))) store out) (settles m a .taken e) ∙ sym (result-accepted (call.mode i a) b store out (its-modes ∙ e))
-      go (Refuse r) e = (λ t. resultWith (settles m a .said r e t) (withLine b i (steppedTo (lineOf b i) (settles m a .modes r e t) (settles m a .channels r e t))) store out) ∙ ap (λ (k : Book). resultWith (refused r) k store out) (same-line b i) ∙ sym (did-refused (call.mode i a) b store out (its-modes ∙ e))
+  module _ {v : Verdict} (asked : v ≡ verdict earlier) where
+    pub mode-refused : {r : Refusal} → v ≡ Refuse r → (store out : List ℕ) → resultWith (refused r) b store out ≡ resultOf (call.mode i a) b store out
+    mode-refused p store out = sym (did-refused (call.mode i a) b store out (sym (stops earlier (actTests m a) (mode-parts (length store) (length out)) asked p)))
+
+    module _ (p : v ≡ Pass) where
+      pub moved-did : (store out : List ℕ) → after store out ≡ resultOf (call.mode i a) b store out
+      unfolding acceptedResult effect lineFor steppedTo
+      moved-did store out = go (verdict (actTests m a)) refl
+        where
+          its-modes : verdict (order (call.mode i a) b (length store) (length out)) ≡ verdict (actTests m a)
+          its-modes = sym (goes-on earlier (actTests m a) (mode-parts (length store) (length out)) asked p refl)
+
+          go : (w : Verdict) → verdict (actTests m a) ≡ w → after store out ≡ resultOf (call.mode i a) b store out
+          go Pass e = ap (λ (s : Answer). resultWith s (withLine b i (steppedTo (lineOf b i) (outcome m a .modes) (outcome m a .channels))) store out) (settles m a .taken e) ∙ sym (result-accepted (call.mode i a) b store out (its-modes ∙ e))
+          go (Refuse r) e = (λ t. resultWith (settles m a .said r e t) (withLine b i (steppedTo (lineOf b i) (settles m a .modes r e t) (settles m a .channels r e t))) store out) ∙ ap (λ (k : Book). resultWith (refused r) k store out) (same-line b i) ∙ sym (did-refused (call.mode i a) b store out (its-modes ∙ e))
+
+      -- the code reads the line, makes the step of its modes, and puts the line back
+      pub mode-does : {l stepped : Line} {next : Book} {o : Outcome} → l ≡ lineOf b i → o ≡ outcome (l .modes) a → stepped ≡ steppedTo l (o .modes) (o .channels) → next ≡ withLine b i stepped
+          → (store out : List ℕ) → resultWith (o .said) next store out ≡ resultOf (call.mode i a) b store out
+      mode-does {o = o} read step put back store out =
+          let h : o ≡ outcome m a = step ∙ ap (λ (k : Line). outcome (k .modes) a) read in
+          let s = put ∙ (λ t. steppedTo (read t) (h t .modes) (h t .channels)) in
+          (λ t. resultWith (h t .said) ((back ∙ ap (withLine b i) s) t) store out) ∙ moved-did store out

@@ -1,28 +1,28 @@
--- The paragraph 'Order', call by call: each list names the refusals of a call in their order, and when each is given.
+-- The paragraph 'Order', whole: for each call one list of its refusals in their order, each with the test that keeps it away. Nothing
+-- else says in which order a call asks. Of the store and of the output only the length counts.
 -- Assumes nothing.
 use Prim.Native.Nat.{ℕ}
-use mathlib.Core.Bool.{Bool, true, false, not}
-use mathlib.Core.List.{List, [], _∷_, _++_}
-use lib.Dec.{leb}
+use mathlib.Core.Bool.{Bool, true, false, _&&_, not}
+use mathlib.Core.List.{List, [], _∷_}
+use lib.Dec.{ltb, leb, eqb}
 use lib.ListN.{length}
 use Rattle.ground.specs.Refusal.{Test, must}
-use Rattle.ground.specs.declared.Refusal.the-variants.{NOLINE, ROOM, TAKEN, RANGE, BOOK}
-use Rattle.packet.specs.Read.{headAt, headTests}
-use Rattle.mode.specs.Acts.{Act}
+use Rattle.ground.specs.declared.Refusal.the-variants.{SHORT, FORM, TYPE, NOLINE, MODE, CHANNEL, SIZE, FULL, SPENT, NOTHING, ROOM, TAKEN, RANGE, CLOCK, RECOVERY, BOOK}
+use Rattle.packet.specs.Read.{headAt, fixedThere, formPlain, listThere, channelsServed, payloadFits}
+use Rattle.places.specs.Places.{maskOf, bitOf}
+use Rattle.channel.specs.Channel.{windowOf, cap}
+use Rattle.channel.specs.Sizes.{sizeFits}
+use Rattle.sending.specs.Sending.{underWay}
+use Rattle.receiving.specs.Receiving.{nextSize}
 use Rattle.mode.specs.Acts as act
-use Rattle.mode.specs.Indication.{hearTests}
-use Rattle.mode.specs.Request.{askTests}
-use Rattle.mode.specs.Recovery.{tickTests}
-use Rattle.mode.specs.declared.Modes.{Modes}
-use Rattle.line.specs.Fit.{settingsFit}
-use Rattle.line.specs.declared.Line.{Line}
+use Rattle.mode.specs.Given.{audio, modem, text, offered}
+use Rattle.mode.specs.Moved.{ended}
+use Rattle.line.specs.Fit.{largest, settingsFit}
+use Rattle.line.specs.Line.{sendingOf, receivingOf}
 use Rattle.line.specs.declared.Settings.{Settings}
-use Rattle.relay.specs.RelayTests.{relayChannelTests}
-use Rattle.relay.specs.Take.{takeCallTests}
-use Rattle.relay.specs.HandOut.{handCallTests}
-use Rattle.writing.specs.Write.{emptyTests}
-use Rattle.writing.specs.Send.{sendTests}
-use Rattle.arriving.specs.Arrive.{arriveTests}
+use Rattle.relay.specs.RelayTests.{inRelay, reliable}
+use Rattle.writing.specs.Write.{headerLengthFor}
+use Rattle.writing.specs.Send.{ranked, isHeld, heldIn, sentLength}
 use Rattle.book.specs.Book.{lineOf, bookFits, ownerOf, taken}
 use Rattle.book.specs.declared.Book.{Book}
 use Rattle.book.specs.declared.Owner.{Owner}
@@ -30,35 +30,129 @@ use Rattle.book.specs.declared.Owner.the-variants.{At, Nobody}
 use Rattle.calls.specs.Call.{Call}
 use Rattle.calls.specs.Call as call
 
--- "Any call with a book: BOOK, then ROOM for the store if lent, then a line number over 3 as RANGE, then the rest."
-abbrev pub fitBook : Book → Test
-fitBook b = must (bookFits b) BOOK
-
-abbrev pub roomy : ℕ → Test
-roomy store = must (leb 42240 store) ROOM
-
-abbrev pub lineNumber : ℕ → Test
-lineNumber i = must (leb i 3) RANGE
-
-abbrev pub isOpen : Line → Test
-isOpen l = must (l .opened) NOLINE
+-- "Any call with a book: BOOK, then ROOM for the store if lent, then a line number over 3 as RANGE, then the rest." So each list begins.
 
 -- "Opening: TAKEN for the line, RANGE, TAKEN for the identifier."
-unfoldable pub openTests : Book → ℕ → Settings → List Test
-openTests b i s = must (not (lineOf b i .opened)) TAKEN ∷ must (settingsFit (s .identifier) (s .kind)) RANGE ∷ must (not (taken b (s .identifier))) TAKEN ∷ []
+unfoldable pub openOrder : Book → ℕ → Settings → List Test
+openOrder b i s =
+    must (bookFits b) BOOK
+    ∷ must (leb i 3) RANGE
+    ∷ must (not (lineOf b i .opened)) TAKEN
+    ∷ must (settingsFit (s .identifier) (s .kind)) RANGE
+    ∷ must (not (taken b (s .identifier))) TAKEN
+    ∷ []
 
 -- "Closing: NOLINE, ROOM."; a slip has 12 octets
-unfoldable pub closeTests : Line → ℕ → List Test
-closeTests l space = isOpen l ∷ must (leb 12 space) ROOM ∷ []
+unfoldable pub closeOrder : Book → ℕ → ℕ → List Test
+closeOrder b i space =
+    must (bookFits b) BOOK
+    ∷ must (leb i 3) RANGE
+    ∷ must (lineOf b i .opened) NOLINE
+    ∷ must (leb 12 space) ROOM
+    ∷ []
 
--- "Mode calls: NOLINE, CLOCK, RECOVERY, RANGE, MODE."
-abbrev pub actTests : Modes → Act → List Test
-actTests m (act.hear mode time) = hearTests m mode time
-actTests m (act.ask mode time) = askTests m mode time
-actTests m (act.tick time) = tickTests m time
+-- "Mode calls: NOLINE, CLOCK, RECOVERY, RANGE, MODE." An indication is never refused MODE: a, v, m, f or t is indicated
+unfoldable pub hearOrder : Book → ℕ → ℕ → ℕ → List Test
+hearOrder b i mode time =
+    let m = lineOf b i .modes in
+    must (bookFits b) BOOK
+    ∷ must (leb i 3) RANGE
+    ∷ must (lineOf b i .opened) NOLINE
+    ∷ must (leb (m .last) time) CLOCK
+    ∷ must (not (ended m)) RECOVERY
+    ∷ must (leb audio mode && leb mode text) RANGE
+    ∷ []
 
-unfoldable pub modeTests : Line → Act → List Test
-modeTests l a = isOpen l ∷ actTests (l .modes) a
+-- a request: "request while recovering", "a mode not offered", "request for m once m was left"
+unfoldable pub askOrder : Book → ℕ → ℕ → ℕ → List Test
+askOrder b i mode time =
+    let m = lineOf b i .modes in
+    must (bookFits b) BOOK
+    ∷ must (leb i 3) RANGE
+    ∷ must (lineOf b i .opened) NOLINE
+    ∷ must (leb (m .last) time) CLOCK
+    ∷ must (eqb (m .tries) 0) RECOVERY
+    ∷ must (offered m mode) RANGE
+    ∷ must (not (eqb mode modem && m .left)) MODE
+    ∷ []
+
+-- "A tick on an ended line says ended again": of the mode calls' refusals a tick has NOLINE and CLOCK
+unfoldable pub tickOrder : Book → ℕ → ℕ → List Test
+tickOrder b i time =
+    must (bookFits b) BOOK
+    ∷ must (leb i 3) RANGE
+    ∷ must (lineOf b i .opened) NOLINE
+    ∷ must (leb (lineOf b i .modes .last) time) CLOCK
+    ∷ []
+
+-- "Message taken: NOLINE, MODE, CHANNEL, SIZE, SPENT, FULL."; the message has n octets
+unfoldable pub takeOrder : Book → ℕ → ℕ → ℕ → ℕ → List Test
+takeOrder b store i channel n =
+    let l = lineOf b i in
+    let s = sendingOf l channel in
+    must (bookFits b) BOOK
+    ∷ must (leb 42240 store) ROOM
+    ∷ must (leb i 3) RANGE
+    ∷ must (l .opened) NOLINE
+    ∷ must (inRelay l) MODE
+    ∷ must (reliable channel) CHANNEL
+    ∷ must (sizeFits largest n) SIZE
+    ∷ must (ltb (s .taken) cap) SPENT
+    ∷ must (ltb (underWay s) (windowOf channel)) FULL
+    ∷ []
+
+-- "Held message written ..: NOLINE, MODE, CHANNEL, .. NOTHING, ROOM."
+unfoldable pub sendOrder : Book → ℕ → ℕ → ℕ → ℕ → ℕ → List Test
+sendOrder b store i channel rank space =
+    let l = lineOf b i in
+    must (bookFits b) BOOK
+    ∷ must (leb 42240 store) ROOM
+    ∷ must (leb i 3) RANGE
+    ∷ must (l .opened) NOLINE
+    ∷ must (inRelay l) MODE
+    ∷ must (reliable channel) CHANNEL
+    ∷ must (isHeld (ranked l channel rank)) NOTHING
+    ∷ must (leb (sentLength l (heldIn (ranked l channel rank))) space) ROOM
+    ∷ []
+
+-- "hand-out: NOLINE, MODE, CHANNEL, SPENT (hand-out only), NOTHING, ROOM."; message R stands at place 0 of what is stored
+unfoldable pub handOutOrder : Book → ℕ → ℕ → ℕ → ℕ → List Test
+handOutOrder b store i channel space =
+    let l = lineOf b i in
+    let r = receivingOf l channel in
+    must (bookFits b) BOOK
+    ∷ must (leb 42240 store) ROOM
+    ∷ must (leb i 3) RANGE
+    ∷ must (l .opened) NOLINE
+    ∷ must (inRelay l) MODE
+    ∷ must (reliable channel) CHANNEL
+    ∷ must (ltb (r .next) cap) SPENT
+    ∷ must (bitOf (maskOf (r .stored)) 0) NOTHING
+    ∷ must (leb (nextSize r) space) ROOM
+    ∷ []
+
+-- "Empty packet: NOLINE, MODE, CHANNEL, ROOM."; "empty-packet call not naming 0 to 2"
+unfoldable pub emptyOrder : Book → ℕ → ℕ → ℕ → List Test
+emptyOrder b i channel space =
+    let l = lineOf b i in
+    must (bookFits b) BOOK
+    ∷ must (leb i 3) RANGE
+    ∷ must (l .opened) NOLINE
+    ∷ must (inRelay l) MODE
+    ∷ must (leb channel 2) CHANNEL
+    ∷ must (leb (headerLengthFor l) space) ROOM
+    ∷ []
+
+-- "Held report: NOLINE, MODE, CHANNEL."
+unfoldable pub reportOrder : Book → ℕ → ℕ → List Test
+reportOrder b i channel =
+    let l = lineOf b i in
+    must (bookFits b) BOOK
+    ∷ must (leb i 3) RANGE
+    ∷ must (l .opened) NOLINE
+    ∷ must (inRelay l) MODE
+    ∷ must (reliable channel) CHANNEL
+    ∷ []
 
 -- the open line that has the packet's identifier: "Taking the line from the caller and not from the packet's identifier" is an error
 abbrev pub packetLine : Book → List ℕ → Owner
@@ -72,13 +166,35 @@ abbrev pub lineAt : Owner → ℕ
 lineAt (At i) = i
 lineAt Nobody = 0
 
--- "Arrival: SHORT for 6 octets, FORM, NOLINE,"
-unfoldable pub addressTests : Book → List ℕ → List Test
-addressTests b s = headTests s ++ (must (isSomebody (packetLine b s)) NOLINE ∷ [])
+-- "Arrival: SHORT for 6 octets, FORM, NOLINE, TYPE, MODE, SHORT for the list, CHANNEL, SIZE."; s is the packet's octets
+unfoldable pub arriveOrder : Book → ℕ → List ℕ → List Test
+arriveOrder b store s =
+    let l = lineOf b (lineAt (packetLine b s)) in
+    must (bookFits b) BOOK
+    ∷ must (leb 42240 store) ROOM
+    ∷ must (fixedThere s) SHORT
+    ∷ must (formPlain s) FORM
+    ∷ must (isSomebody (packetLine b s)) NOLINE
+    ∷ must (eqb (headAt s .kind) (l .kind)) TYPE
+    ∷ must (inRelay l) MODE
+    ∷ must (listThere s) SHORT
+    ∷ must (channelsServed s) CHANNEL
+    ∷ must (payloadFits s largest) SIZE
+    ∷ []
 
--- "TYPE, MODE, SHORT for the list, CHANNEL, SIZE."
-unfoldable pub arrivalTests : Book → List ℕ → List Test
-arrivalTests b s = addressTests b s ++ arriveTests (lineOf b (lineAt (packetLine b s))) s
+-- the list of each call; a call that is lent no store, or no output, does not ask for its length
+unfoldable pub order : Call → Book → ℕ → ℕ → List Test
+order (call.opening i s time) b store space = openOrder b i s
+order (call.closing i) b store space = closeOrder b i space
+order (call.mode i (act.hear mode time)) b store space = hearOrder b i mode time
+order (call.mode i (act.ask mode time)) b store space = askOrder b i mode time
+order (call.mode i (act.tick time)) b store space = tickOrder b i time
+order (call.taking i channel message) b store space = takeOrder b store i channel (length message)
+order (call.sending i channel rank) b store space = sendOrder b store i channel rank space
+order (call.empty i channel) b store space = emptyOrder b i channel space
+order (call.arrival s) b store space = arriveOrder b store s
+order (call.handOut i channel) b store space = handOutOrder b store i channel space
+order (call.report i channel) b store space = reportOrder b i channel
 
 -- the line that a call is for
 unfoldable pub lineFor : Call → Book → ℕ
@@ -91,15 +207,3 @@ lineFor (call.empty i channel) b = i
 lineFor (call.arrival s) b = lineAt (packetLine b s)
 lineFor (call.handOut i channel) b = i
 lineFor (call.report i channel) b = i
-
--- every call's tests, in order. Of the store and of the output only the length counts.
-unfoldable pub tests : Call → Book → ℕ → ℕ → List Test
-tests (call.opening i s time) b store space = fitBook b ∷ lineNumber i ∷ openTests b i s
-tests (call.closing i) b store space = fitBook b ∷ lineNumber i ∷ closeTests (lineOf b i) space
-tests (call.mode i a) b store space = fitBook b ∷ lineNumber i ∷ modeTests (lineOf b i) a
-tests (call.taking i channel message) b store space = fitBook b ∷ roomy store ∷ lineNumber i ∷ takeCallTests (lineOf b i) channel (length message)
-tests (call.sending i channel rank) b store space = fitBook b ∷ roomy store ∷ lineNumber i ∷ sendTests (lineOf b i) channel rank space
-tests (call.empty i channel) b store space = fitBook b ∷ lineNumber i ∷ emptyTests (lineOf b i) channel space
-tests (call.arrival s) b store space = fitBook b ∷ roomy store ∷ arrivalTests b s
-tests (call.handOut i channel) b store space = fitBook b ∷ roomy store ∷ lineNumber i ∷ handCallTests (lineOf b i) channel space
-tests (call.report i channel) b store space = fitBook b ∷ lineNumber i ∷ relayChannelTests (lineOf b i) channel

@@ -26,7 +26,7 @@ use Rattle.book.specs.Closing.{closedAt}
 use Rattle.book.specs.declared.Book.{Book}
 use Rattle.calls.specs.Call.{Call}
 use Rattle.calls.specs.Call as call
-use Rattle.calls.specs.Order.{tests, lineFor}
+use Rattle.calls.specs.Order.{order, lineFor}
 
 pub record CallResult : Type 0 where
   pub answer : Answer
@@ -81,6 +81,6 @@ acceptedResult c b store out =
     let e = effect c i (lineOf b i) store out in
     resultWith (accepted (e .values)) (pick (e .rests) (closedAt b i) (withLine b i (e .line))) (e .store) (e .out)
 
--- "Each refusal returns its number alone and changes neither book nor any octet."
+-- The first refusal of the call's order decides. "Each refusal returns its number alone and changes neither book nor any octet."
 unfoldable pub resultOf : Call → Book → List ℕ → List ℕ → CallResult
-resultOf c b store out = settle (verdict (tests c b (length store) (length out))) (λ r. resultWith (refused r) b store out) (acceptedResult c b store out)
+resultOf c b store out = settle (verdict (order c b (length store) (length out))) (λ r. resultWith (refused r) b store out) (acceptedResult c b store out)

@@ -6,7 +6,8 @@ ghost use Prim.Native.Nat.{_≤_, _<_};
 ghost use mathlib.Core.List.{[], _∷_};
 ghost use Rattle.ground.specs.Refusal.{verdict};
 ghost use Rattle.book.specs.Book.{lineOf};
-ghost use Rattle.calls.specs.Order.{fitBook, roomy, lineNumber, isOpen, openTests, closeTests};
+ghost use Rattle.calls.specs.Order.{openOrder, closeOrder};
+ghost use Rattle.calls.specs.Parts.{fitBook, roomy, lineNumber, isOpen, openTests};
 use book::Book;
 use ground::Refusal;
 use ground::Verdict;
@@ -85,7 +86,7 @@ fn may_open_line(book: Book, line: u8, settings: Settings) -> Verdict
 
 // May a line be opened? BOOK, RANGE for the line, TAKEN for the line, RANGE, TAKEN for the identifier.
 pub fn may_open(book: Book, line: u8, settings: Settings) -> Verdict
-    ensures { λ r. ⌜ r ≡ verdict (fitBook book ∷ lineNumber line ∷ openTests book line settings) ⌝ }
+    ensures { λ r. ⌜ r ≡ verdict (openOrder book line settings) ⌝ }
 {
     let earlier = line_verdict(book, line);
     match earlier {
@@ -96,7 +97,7 @@ pub fn may_open(book: Book, line: u8, settings: Settings) -> Verdict
 
 // May a line be closed? BOOK, RANGE for the line, NOLINE, ROOM for the slip.
 pub fn may_close(book: Book, line: u8, space: usize) -> Verdict
-    ensures { λ r. ⌜ r ≡ verdict (fitBook book ∷ lineNumber line ∷ closeTests (lineOf book line) space) ⌝ }
+    ensures { λ r. ⌜ r ≡ verdict (closeOrder book line space) ⌝ }
 {
     let earlier = may_change_mode(book, line);
     match earlier {

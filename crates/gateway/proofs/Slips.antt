@@ -21,7 +21,7 @@ use Rattle.mode.specs.Moved.{ended}
 use Rattle.line.specs.Fit.{largest, lineFits}
 use Rattle.line.specs.declared.Line.{Line}
 use Rattle.line.proofs.Keeps.{line-ok}
-use Rattle.calls.specs.Order.{closeTests}
+use Rattle.calls.specs.Parts.{closeTests}
 use Rattle.calls.specs.Result.{slipOf}
 
 -- "handed out at most as many": a count has its 24 bits

@@ -23,7 +23,8 @@ use Rattle.book.specs.declared.Book.{Book}
 use Rattle.book.proofs.OneOwner.{whose-at}
 use Rattle.book.specs.declared.Owner.{Owner}
 use Rattle.book.specs.declared.Owner.the-variants.{At, Nobody}
-use Rattle.calls.specs.Order.{packetLine, isSomebody, lineAt, addressTests, arrivalTests}
+use Rattle.calls.specs.Order.{packetLine, isSomebody, lineAt}
+use Rattle.calls.specs.Parts.{addressTests, arrivalTests}
 use Rattle.incoming.specs.declared.ArriveVerdict.{ArriveVerdict}
 use Rattle.incoming.specs.declared.ArriveVerdict.the-variants as may
 

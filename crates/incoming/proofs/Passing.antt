@@ -31,7 +31,9 @@ use Rattle.book.specs.declared.Owner.{Owner}
 use Rattle.book.specs.declared.Owner.the-variants.{At, Nobody}
 use Rattle.book.proofs.Facts.{line-fits}
 use Rattle.book.proofs.OneOwner.{whose-at}
-use Rattle.calls.specs.Order.{fitBook, roomy, packetLine, isSomebody, lineAt, addressTests, arrivalTests}
+use Rattle.calls.specs.Order.{arriveOrder, packetLine, isSomebody, lineAt}
+use Rattle.calls.specs.Parts.{fitBook, roomy, addressTests, arrivalTests}
+use Rattle.calls.proofs.OrderParts.{arrive-parts}
 use Rattle.incoming.specs.declared.ArriveVerdict.{ArriveVerdict}
 use Rattle.incoming.specs.declared.ArriveVerdict.the-variants as arrives
 
@@ -70,19 +72,19 @@ addressed b n s e =
     somebody (At j) t = refl
     somebody Nobody t = absurd (let z : _≡_ {A = ℕ} 0 1 = cc in omega arith)
 
-module _ (b : Book) (n : ℕ) (s : List ℕ) {r : ArriveVerdict} (e : r ≡ settle (verdict (fitBook b ∷ roomy n ∷ arrivalTests b s)) arrives.Refused (arrives.At (lineAt (packetLine b s)))) where
-  pub arrive-refuses : {x : Refusal} → r ≡ arrives.Refused x → verdict (fitBook b ∷ roomy n ∷ arrivalTests b s) ≡ Refuse x
-  arrive-refuses p = verdict-of-answer whyArrive (verdict (fitBook b ∷ roomy n ∷ arrivalTests b s)) e (λ x. refl) refl ∙ ap whyArrive p
+module _ (b : Book) (n : ℕ) (s : List ℕ) {r : ArriveVerdict} (e : r ≡ settle (verdict (arriveOrder b n s)) arrives.Refused (arrives.At (lineAt (packetLine b s)))) where
+  pub arrive-refuses : {x : Refusal} → r ≡ arrives.Refused x → verdict (arriveOrder b n s) ≡ Refuse x
+  arrive-refuses p = verdict-of-answer whyArrive (verdict (arriveOrder b n s)) e (λ x. refl) refl ∙ ap whyArrive p
 
   module _ {i : ℕ} (p : r ≡ arrives.At i) where
-    pub arrive-passes : verdict (fitBook b ∷ roomy n ∷ arrivalTests b s) ≡ Pass
-    arrive-passes = verdict-of-answer whyArrive (verdict (fitBook b ∷ roomy n ∷ arrivalTests b s)) e (λ x. refl) refl ∙ ap whyArrive p
+    pub arrive-passes : verdict (arriveOrder b n s) ≡ Pass
+    arrive-passes = verdict-of-answer whyArrive (verdict (arriveOrder b n s)) e (λ x. refl) refl ∙ ap whyArrive p
 
     pub arrive-line : lineAt (packetLine b s) ≡ i
     arrive-line = sym (ap lineOr (sym p ∙ e ∙ ap (λ (v : Verdict). settle {A = ArriveVerdict} v arrives.Refused (arrives.At (lineAt (packetLine b s)))) arrive-passes))
 
     pub arrive-addressed : Addressed b n s i
-    arrive-addressed = rw arrive-line at (addressed b n s arrive-passes)
+    arrive-addressed = rw arrive-line at (addressed b n s (sym (ap verdict (arrive-parts b n s)) ∙ arrive-passes))
 
 -- the message handed out has as many octets as its size says
 pub handed-length : (l : Line) (i channel slot : ℕ) (store : List ℕ) → lineFits l ≡ true → i < 4 → 42240 ≤ length store → verdict (handCallTests l channel slot) ≡ Pass

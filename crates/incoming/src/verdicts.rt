@@ -1,11 +1,9 @@
 // The verdicts of the calls by which messages come in: document 01, the paragraph 'Order'. A packet's identifier names its line. Of
 // the store and of the output only the length counts. What an accepted call does stands beside this file, in lib.rt.
 ghost use mathlib.Core.Path.{_≡_};
-ghost use mathlib.Core.List.{_∷_};
 ghost use Rattle.ground.specs.Refusal.{verdict, settle};
-ghost use Rattle.relay.specs.HandOut.{handCallTests};
-ghost use Rattle.book.specs.Book.{lineOf};
-ghost use Rattle.calls.specs.Order.{fitBook, roomy, lineNumber, addressTests, arrivalTests, packetLine, lineAt};
+ghost use Rattle.calls.specs.Order.{handOutOrder, arriveOrder, packetLine, lineAt};
+ghost use Rattle.calls.specs.Parts.{addressTests, arrivalTests};
 ghost use Rattle.incoming.specs.declared.ArriveVerdict.{ArriveVerdict};
 use crate::ArriveVerdict;
 use book::Book;
@@ -16,7 +14,7 @@ use packet::HeadReading;
 
 // May message R be handed out into `space` octets?
 pub fn may_hand_out(book: Book, store: usize, line: u8, channel: u8, space: usize) -> Verdict
-    ensures { λ r. ⌜ r ≡ verdict (fitBook book ∷ roomy store ∷ lineNumber line ∷ handCallTests (lineOf book line) channel space) ⌝ }
+    ensures { λ r. ⌜ r ≡ verdict (handOutOrder book store line channel space) ⌝ }
 {
     let earlier = calls::store_line_verdict(book, store, line);
     match earlier {
@@ -61,7 +59,7 @@ fn may_arrive_at(book: Book, s: &[u8]) -> ArriveVerdict
 
 // May a packet arrive, and at which line?
 pub fn may_arrive(book: Book, store: usize, s: &[u8]) -> ArriveVerdict
-    ensures { λ r. ⌜ r ≡ settle (verdict (fitBook book ∷ roomy store ∷ arrivalTests book (now (s .entry)))) ArriveVerdict.Refused (ArriveVerdict.At (lineAt (packetLine book (now (s .entry))))) ⌝ }
+    ensures { λ r. ⌜ r ≡ settle (verdict (arriveOrder book store (now (s .entry)))) ArriveVerdict.Refused (ArriveVerdict.At (lineAt (packetLine book (now (s .entry))))) ⌝ }
 {
     let earlier = calls::store_verdict(book, store);
     match earlier {

@@ -1,7 +1,7 @@
 -- Every call keeps a book that passes: what BOOK asks, and the lengths of the book's arrays.
 -- Assumes nothing.
 use Prim.Native.Nat.{ℕ}
-use mathlib.Core.Path.{_≡_, refl, sym, subst}
+use mathlib.Core.Path.{_≡_, refl, sym, subst, _∙_}
 use mathlib.Core.Bool.{true}
 use mathlib.Core.List.{List}
 use lib.ListN.{length}
@@ -46,8 +46,10 @@ use Rattle.book.proofs.Facts.{line-fits}
 use Rattle.book.proofs.Keeps.{with-line-keeps, opened-keeps, closed-keeps, with-line-shaped, closed-shaped-book}
 use Rattle.calls.specs.Call.{Call}
 use Rattle.calls.specs.Call as call
-use Rattle.calls.specs.Order.{tests, lineFor, openTests, closeTests, modeTests, packetLine, lineAt}
+use Rattle.calls.specs.Order.{order, lineFor, packetLine, lineAt}
+use Rattle.calls.specs.Parts.{tests, openTests, closeTests, modeTests}
 use Rattle.calls.proofs.FirstTests.{line-passed, both-passed}
+use Rattle.calls.proofs.OrderParts.{in-parts}
 use Rattle.calls.specs.Result.{CallResult, resultOf, acceptedResult, effect}
 use Rattle.incoming.proofs.Passing.{addressed}
 
@@ -146,7 +148,7 @@ pub every-call-keeps : (c : Call) (b : Book) (store out : List ℕ) → bookFits
     → (bookFits (resultOf c b store out .book) ≡ true) × BookShaped (resultOf c b store out .book)
 unfolding resultOf
 every-call-keeps c b store out fits shaped =
-    settled-by (λ (d : CallResult). Passes (d .book)) (verdict (tests c b (length store) (length out))) (λ r e. (fits, shaped)) (λ e. done-keeps b fits shaped c store out e)
+    settled-by (λ (d : CallResult). Passes (d .book)) (verdict (order c b (length store) (length out))) (λ r e. (fits, shaped)) (λ e. done-keeps b fits shaped c store out (sym (in-parts c b (length store) (length out)) ∙ e))
 
 -- and the store that is lent stays as long as it was
 effect-length : (c : Call) (i : ℕ) (l : Line) (store out : List ℕ) → length (effect c i l store out .store) ≡ length store
@@ -164,6 +166,6 @@ effect-length (call.report j channel) i l store out = refl
 pub store-length : (c : Call) (b : Book) (store out : List ℕ) → length (resultOf c b store out .store) ≡ length store
 unfolding resultOf acceptedResult
 store-length c b store out =
-    settled-by (λ (d : CallResult). length (d .store) ≡ length store) (verdict (tests c b (length store) (length out)))
+    settled-by (λ (d : CallResult). length (d .store) ≡ length store) (verdict (order c b (length store) (length out)))
     (λ r e. refl)
     (λ e. effect-length c (lineFor c b) (lineOf b (lineFor c b)) store out)

@@ -24,7 +24,8 @@ use Rattle.book.proofs.Facts.{book-ok}
 use Rattle.book.proofs.OneOwner.{whose-at}
 use Rattle.calls.specs.Call.{Call}
 use Rattle.calls.specs.Call as call
-use Rattle.calls.specs.Order.{tests, lineFor, openTests, closeTests, modeTests, packetLine, lineAt, addressTests}
+use Rattle.calls.specs.Order.{lineFor, packetLine, lineAt}
+use Rattle.calls.specs.Parts.{tests, openTests, closeTests, modeTests, addressTests}
 use Rattle.incoming.specs.declared.ArriveVerdict.{ArriveVerdict}
 use Rattle.incoming.specs.declared.ArriveVerdict.the-variants as may
 use Rattle.calls.proofs.FirstTests.{OnLine, line-passed, both-passed}

@@ -1,7 +1,7 @@
 -- Other lines and their slots stay, whatever call it is; octets past the store are never touched.
 -- Assumes nothing.
 use Prim.Native.Nat.{ℕ, _≤_, _<_}
-use mathlib.Core.Path.{_≡_, refl, ap, _∙_}
+use mathlib.Core.Path.{_≡_, refl, sym, ap, _∙_}
 use mathlib.Core.Bool.{true}
 use mathlib.Core.List.{List}
 use mathlib.Core.Logic.{_≢_, _⊎_, inl, inr, ⊎-elim}
@@ -41,8 +41,10 @@ use Rattle.book.specs.declared.Book.{Book}
 use Rattle.book.proofs.OtherLines.{line-other, closed-other}
 use Rattle.calls.specs.Call.{Call}
 use Rattle.calls.specs.Call as call
-use Rattle.calls.specs.Order.{tests, lineFor, packetLine, lineAt}
+use Rattle.calls.specs.Order.{order, lineFor, packetLine, lineAt}
+use Rattle.calls.specs.Parts.{tests}
 use Rattle.calls.proofs.FirstTests.{both-passed}
+use Rattle.calls.proofs.OrderParts.{in-parts}
 use Rattle.calls.specs.Result.{CallResult, resultOf, acceptedResult, effect}
 use Rattle.incoming.proofs.Passing.{addressed}
 
@@ -50,7 +52,7 @@ use Rattle.incoming.proofs.Passing.{addressed}
 pub others-stay : (c : Call) (b : Book) (store out : List ℕ) (j : ℕ) → (lineFor c b ≡ j → ⊥) → lineOf (resultOf c b store out .book) j ≡ lineOf b j
 unfolding resultOf acceptedResult
 others-stay c b store out j n =
-    settled-by (λ (d : CallResult). lineOf (d .book) j ≡ lineOf b j) (verdict (tests c b (length store) (length out)))
+    settled-by (λ (d : CallResult). lineOf (d .book) j ≡ lineOf b j) (verdict (order c b (length store) (length out)))
     (λ r e. refl)
     (λ _.
     let i = lineFor c b in
@@ -163,7 +165,7 @@ module _ (c : Call) (b : Book) (store out : List ℕ) (k : BookShaped b) where
   -- whatever the answer
   pub did-puts : Puts (lineFor c b) store after
   unfolding resultOf acceptedResult
-  did-puts = settled-by (λ (d : CallResult). Puts (lineFor c b) store (d .store)) (verdict (tests c b (length store) (length out))) (λ r e. inl refl) (λ e. puts c b store out e k)
+  did-puts = settled-by (λ (d : CallResult). Puts (lineFor c b) store (d .store)) (verdict (order c b (length store) (length out))) (λ r e. inl refl) (λ e. puts c b store out (sym (in-parts c b (length store) (length out)) ∙ e) k)
 
   -- The slots of every other line hold what they held, both ways and on both channels.
   pub slots-stay : (j : ℕ) → j < 4 → (lineFor c b ≡ j → ⊥) → (w : Way) (channel : ℕ) → reliable channel ≡ true

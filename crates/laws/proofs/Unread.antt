@@ -37,8 +37,10 @@ use Rattle.book.proofs.OtherLines.{line-other}
 use Rattle.book.proofs.Unread.{closed-unread, taken-unread, whose-unread}
 use Rattle.calls.specs.Call.{Call}
 use Rattle.calls.specs.Call as call
-use Rattle.calls.specs.Order.{tests, lineFor, fitBook, roomy, lineNumber, isOpen, openTests, closeTests, modeTests, packetLine, isSomebody, lineAt, addressTests, arrivalTests}
+use Rattle.calls.specs.Order.{lineFor, packetLine, isSomebody, lineAt}
+use Rattle.calls.specs.Parts.{tests, fitBook, roomy, lineNumber, isOpen, openTests, closeTests, modeTests, addressTests, arrivalTests}
 use Rattle.calls.specs.Result.{CallResult, Effect, resultWith, resultOf, acceptedResult, effect}
+use Rattle.calls.proofs.OrderParts.{in-parts}
 use Rattle.calls.proofs.Results.{result-accepted, did-refused}
 use Rattle.laws.proofs.OwnLine.{accepted-passes}
 use Rattle.laws.proofs.LineFor.{opens, pass-address, pass-open}
@@ -225,9 +227,9 @@ module _ (b : Book) (i : ℕ) (o : lineOf b i .opened ≡ false) (m : Line) (c :
   did-same k store out = go (verdict (tests k b (length store) (length out))) refl
     where
       go : (v : Verdict) → verdict (tests k b (length store) (length out)) ≡ v → SameDid i (resultOf k b store out) (resultOf k other store out)
-      go Pass e = rw (result-accepted k b store out e, result-accepted k other store out (sym (verdict-same k (length store) (length out)) ∙ e)) (done-same k store out e)
+      go Pass e = rw (result-accepted k b store out (in-parts k b (length store) (length out) ∙ e), result-accepted k other store out (in-parts k other (length store) (length out) ∙ sym (verdict-same k (length store) (length out)) ∙ e)) (done-same k store out e)
       go (Refuse r) e =
-          rw (did-refused k b store out e, did-refused k other store out (sym (verdict-same k (length store) (length out)) ∙ e))
+          rw (did-refused k b store out (in-parts k b (length store) (length out) ∙ e), did-refused k other store out (in-parts k other (length store) (length out) ∙ sym (verdict-same k (length store) (length out)) ∙ e))
           (record { answer = refl; store = refl; out = refl; book = sym (put-twice b i m closedLine) })
 
 -- THE PROMISE: whatever stands in a closed line's record, every call gives the same answer and leaves the same, but for that record.
@@ -246,6 +248,6 @@ opening-unread b i l m p q s time store out z =
     let c = call.opening i s time in
     let e = accepted-passes c (withLine b i l) store out z in
     let f = accepted-passes c (withLine b i m) store out (ap (λ (a : Answer). a .number) (sym (closed-record-unread b i l m p q c store out .answer)) ∙ z) in
-    result-accepted c (withLine b i l) store out e
+    result-accepted c (withLine b i l) store out (in-parts c (withLine b i l) (length store) (length out) ∙ e)
     ∙ ap (λ (a : Book). resultWith (accepted []) a store out) (put-twice b i l (openedLine s time) ∙ sym (put-twice b i m (openedLine s time)))
-    ∙ sym (result-accepted c (withLine b i m) store out f)
+    ∙ sym (result-accepted c (withLine b i m) store out (in-parts c (withLine b i m) (length store) (length out) ∙ f))

@@ -2,7 +2,7 @@
 -- Assumes nothing.
 use Prim.Native.Nat.{ℕ, _≤_}
 use mathlib.Core.Path.{_≡_, refl, sym, ap, _∙_}
-use mathlib.Core.List.{List, _∷_}
+use mathlib.Core.List.{List}
 use Rattle.ground.specs.Refusal.{Test, verdict, settle}
 use Rattle.ground.specs.declared.Refusal.{Refusal}
 use Rattle.ground.specs.declared.Verdict.{Verdict}
@@ -15,8 +15,9 @@ use Rattle.writing.specs.declared.SendVerdict.the-variants as may
 use Rattle.writing.proofs.Sends.{may-sendable}
 use Rattle.book.specs.Book.{lineOf}
 use Rattle.book.specs.declared.Book.{Book}
-use Rattle.calls.specs.Order.{fitBook, roomy, lineNumber}
-use Rattle.calls.proofs.FirstTests.{OnLine, both-passed}
+use Rattle.calls.specs.Order.{sendOrder}
+use Rattle.calls.proofs.FirstTests.{OnLine, asked-both}
+use Rattle.calls.proofs.OrderParts.{send-parts}
 
 abbrev whySend : SendVerdict → Verdict
 whySend (may.Message h) = Pass
@@ -29,7 +30,7 @@ heldOr d (may.Refused r) = d
 -- a held message is asked for
 module _ (b : Book) (n i channel rank space : ℕ) where
   abbrev asked : List Test
-  asked = fitBook b ∷ roomy n ∷ lineNumber i ∷ sendTests (lineOf b i) channel rank space
+  asked = sendOrder b n i channel rank space
 
   abbrev its : Held
   its = heldIn (ranked (lineOf b i) channel rank)
@@ -46,7 +47,7 @@ module _ (b : Book) (n i channel rank space : ℕ) where
       send-is = ap (heldOr its) (sym p ∙ e ∙ ap (λ (v : Verdict). settle {A = SendVerdict} v may.Refused (may.Message its)) send-passes)
 
       pub send-on : OnLine b i × (42240 ≤ n) × (verdict (sendTests (lineOf b i) channel rank space) ≡ Pass)
-      send-on = both-passed b n i (sendTests (lineOf b i) channel rank space) send-passes
+      send-on = asked-both n (send-parts b n i channel rank space) refl send-passes
 
       pub sendable : Sendable (lineOf b i) channel space h
       unfolding sendVerdict

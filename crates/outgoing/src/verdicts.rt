@@ -1,22 +1,18 @@
 // The verdicts of the calls by which messages go out: document 01, the paragraph 'Order'. Of the store and of the output only the
 // length counts. What an accepted call does stands beside this file, in lib.rt.
 ghost use mathlib.Core.Path.{_≡_};
-ghost use mathlib.Core.List.{_∷_};
 ghost use Rattle.ground.specs.Refusal.{verdict, settle};
-ghost use Rattle.relay.specs.RelayTests.{relayChannelTests};
-ghost use Rattle.relay.specs.Take.{takeCallTests};
-ghost use Rattle.writing.specs.Write.{emptyTests};
-ghost use Rattle.writing.specs.Send.{sendTests, ranked, heldIn};
+ghost use Rattle.writing.specs.Send.{ranked, heldIn};
 ghost use Rattle.writing.specs.declared.SendVerdict.{SendVerdict};
 ghost use Rattle.book.specs.Book.{lineOf};
-ghost use Rattle.calls.specs.Order.{fitBook, roomy, lineNumber};
+ghost use Rattle.calls.specs.Order.{takeOrder, sendOrder, emptyOrder, reportOrder};
 use book::Book;
 use ground::Verdict;
 use writing::SendVerdict;
 
 // May a message of n octets be taken?
 pub fn may_take(book: Book, store: usize, line: u8, channel: u8, n: usize) -> Verdict
-    ensures { λ r. ⌜ r ≡ verdict (fitBook book ∷ roomy store ∷ lineNumber line ∷ takeCallTests (lineOf book line) channel n) ⌝ }
+    ensures { λ r. ⌜ r ≡ verdict (takeOrder book store line channel n) ⌝ }
 {
     let earlier = calls::store_line_verdict(book, store, line);
     match earlier {
@@ -34,7 +30,7 @@ pub fn may_send(
     rank: u8,
     space: usize,
 ) -> SendVerdict
-    ensures { λ r. ⌜ r ≡ settle (verdict (fitBook book ∷ roomy store ∷ lineNumber line ∷ sendTests (lineOf book line) channel rank space)) SendVerdict.Refused (SendVerdict.Message (heldIn (ranked (lineOf book line) channel rank))) ⌝ }
+    ensures { λ r. ⌜ r ≡ settle (verdict (sendOrder book store line channel rank space)) SendVerdict.Refused (SendVerdict.Message (heldIn (ranked (lineOf book line) channel rank))) ⌝ }
 {
     let earlier = calls::store_line_verdict(book, store, line);
     match earlier {
@@ -45,7 +41,7 @@ pub fn may_send(
 
 // May an empty packet be written into `space` octets?
 pub fn may_write_empty(book: Book, line: u8, channel: u8, space: usize) -> Verdict
-    ensures { λ r. ⌜ r ≡ verdict (fitBook book ∷ lineNumber line ∷ emptyTests (lineOf book line) channel space) ⌝ }
+    ensures { λ r. ⌜ r ≡ verdict (emptyOrder book line channel space) ⌝ }
 {
     let earlier = calls::line_verdict(book, line);
     match earlier {
@@ -56,7 +52,7 @@ pub fn may_write_empty(book: Book, line: u8, channel: u8, space: usize) -> Verdi
 
 // May the held messages be reported?
 pub fn may_report(book: Book, line: u8, channel: u8) -> Verdict
-    ensures { λ r. ⌜ r ≡ verdict (fitBook book ∷ lineNumber line ∷ relayChannelTests (lineOf book line) channel) ⌝ }
+    ensures { λ r. ⌜ r ≡ verdict (reportOrder book line channel) ⌝ }
 {
     let earlier = calls::line_verdict(book, line);
     match earlier {

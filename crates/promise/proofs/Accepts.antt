@@ -44,7 +44,7 @@ use Rattle.writing.proofs.Sends.{send-may, may-passed, may-sendable, send-size}
 use Rattle.channel.proofs.Windows.{window-narrow}
 use Rattle.book.proofs.Facts.{line-fits}
 use Rattle.calls.specs.Call as call
-use Rattle.calls.specs.Order.{tests, fitBook, roomy, lineNumber}
+use Rattle.calls.specs.Parts.{tests, fitBook, roomy, lineNumber}
 use Rattle.promise.specs.Past.{Past}
 use Rattle.promise.specs.Run.{Gateway, lineAt}
 use Rattle.promise.specs.Ends.{slotsOf}

@@ -34,7 +34,8 @@ use Rattle.mode.specs.Moved.{ended}
 use Rattle.line.specs.declared.Line.{Line}
 use Rattle.book.proofs.Facts.{line-fits}
 use Rattle.calls.specs.Call as call
-use Rattle.calls.specs.Order.{tests, lineFor, fitBook, lineNumber, closeTests}
+use Rattle.calls.specs.Order.{lineFor}
+use Rattle.calls.specs.Parts.{tests, fitBook, lineNumber, closeTests}
 use Rattle.calls.specs.Result.{effect, slipOf}
 use Rattle.gateway.proofs.Slips.{slip-passes}
 use Rattle.promise.specs.Build.{leftBy, ours}

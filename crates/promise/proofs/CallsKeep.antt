@@ -25,7 +25,8 @@ use Rattle.writing.specs.Send.{sendTests, ranked, heldIn, heldPacket}
 use Rattle.writing.proofs.Keeps.{wrote-line-same}
 use Rattle.calls.specs.Call.{Call}
 use Rattle.calls.specs.Call as call
-use Rattle.calls.specs.Order.{tests, lineFor, fitBook, roomy, lineNumber}
+use Rattle.calls.specs.Order.{lineFor}
+use Rattle.calls.specs.Parts.{tests, fitBook, roomy, lineNumber}
 use Rattle.calls.specs.Result.{effect}
 use Rattle.flow.specs.Flow.{Message}
 use Rattle.promise.specs.Past.{Mark, Past, tookPast, handedPast, wrotePast}

@@ -24,7 +24,7 @@ use Rattle.line.specs.declared.Line.{Line}
 use Rattle.book.specs.Book.{lineOf}
 use Rattle.book.proofs.OtherLines.{line-same}
 use Rattle.calls.specs.Call as call
-use Rattle.calls.specs.Order.{fitBook, lineNumber, isOpen}
+use Rattle.calls.specs.Parts.{fitBook, lineNumber, isOpen}
 use Rattle.calls.specs.Result.{CallResult}
 use Rattle.calls.proofs.Results.{settles, moved-did}
 use Rattle.line.specs.Mode.{steppedTo}
@@ -56,11 +56,11 @@ module _ {g : Gateway} {i : ℕ} (r : Ready g i) (a : Act) (out : List ℕ) wher
   modes-left : lineAt (after g (call.mode i a) out) i .modes ≡ outcome m a .modes
   modes-left =
       let l = steppedTo (lineAt g i) (outcome m a .modes) (outcome m a .channels) in
-      ap (λ (d : CallResult). lineOf (d .book) i .modes) (sym (moved-did (g .book) i a (g .store) out there))
+      ap (λ (d : CallResult). lineOf (d .book) i .modes) (sym (moved-did (g .book) i a refl there (g .store) out))
       ∙ ap (λ (x : Line). x .modes) (line-same (g .book) (r .shaped) i (r .small) l) ∙ stepped-modes (lineAt g i) (outcome m a .modes) (outcome m a .channels)
 
   answer-said : does g (call.mode i a) out .answer ≡ outcome m a .said
-  answer-said = ap (λ (d : CallResult). d .answer) (sym (moved-did (g .book) i a (g .store) out there))
+  answer-said = ap (λ (d : CallResult). d .answer) (sym (moved-did (g .book) i a refl there (g .store) out))
 
   said : outcome m a .said .number ≡ 0 → accepts (does g (call.mode i a) out) ≡ true
   said e = eq-eqb _ _ (ap (λ (x : Answer). x .number) answer-said ∙ e)

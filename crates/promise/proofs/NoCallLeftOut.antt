@@ -18,7 +18,8 @@ use Rattle.mode.specs.Given.{modem}
 use Rattle.arriving.specs.Arrive.{arriveTests}
 use Rattle.calls.specs.Call.{Call}
 use Rattle.calls.specs.Call as call
-use Rattle.calls.specs.Order.{tests, lineFor, fitBook, lineNumber, openTests}
+use Rattle.calls.specs.Order.{lineFor}
+use Rattle.calls.specs.Parts.{tests, fitBook, lineNumber, openTests}
 use Rattle.calls.specs.Result.{effect}
 use Rattle.incoming.proofs.Passing.{addressed}
 use Rattle.promise.specs.Past.{Past, tookPast, handedPast, wrotePast, heardPast}

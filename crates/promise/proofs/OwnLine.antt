@@ -12,7 +12,8 @@ use Rattle.ground.specs.Refusal.{verdict}
 use Rattle.ground.specs.declared.Verdict.the-variants.{Pass}
 use Rattle.book.specs.Book.{lineOf}
 use Rattle.calls.specs.Call.{Call}
-use Rattle.calls.specs.Order.{tests, lineFor}
+use Rattle.calls.specs.Order.{lineFor}
+use Rattle.calls.specs.Parts.{tests}
 use Rattle.calls.specs.Result.{effect}
 use Rattle.laws.proofs.OwnLine.{accepted-passes, passes-accepted, own-line, own-store, own-out, own-values}
 use Rattle.calls.proofs.Refusing.{Unchanged, refusal-changes-nothing}

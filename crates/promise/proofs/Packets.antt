@@ -33,7 +33,8 @@ use Rattle.book.specs.declared.Owner.the-variants.{At, Nobody}
 use Rattle.book.proofs.Facts.{line-fits}
 use Rattle.book.proofs.OneOwner.{whose-at}
 use Rattle.calls.specs.Call as call
-use Rattle.calls.specs.Order.{tests, lineFor, fitBook, roomy, lineNumber, packetLine, isSomebody, addressTests, arrivalTests}
+use Rattle.calls.specs.Order.{lineFor, packetLine, isSomebody}
+use Rattle.calls.specs.Parts.{tests, fitBook, roomy, lineNumber, addressTests, arrivalTests}
 use Rattle.calls.specs.Order as order
 use Rattle.calls.specs.Result.{effect}
 use Rattle.laws.proofs.OwnLine.{own-values}

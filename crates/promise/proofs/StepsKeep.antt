@@ -25,7 +25,8 @@ use Rattle.book.proofs.Facts.{line-fits}
 use Rattle.book.proofs.OneOwner.{whose-found}
 use Rattle.calls.specs.Call.{Call}
 use Rattle.calls.specs.Call as call
-use Rattle.calls.specs.Order.{tests, lineFor, fitBook, roomy, isSomebody, packetLine, addressTests, arrivalTests}
+use Rattle.calls.specs.Order.{lineFor, isSomebody, packetLine}
+use Rattle.calls.specs.Parts.{tests, fitBook, roomy, addressTests, arrivalTests}
 use Rattle.calls.specs.Order as order
 use Rattle.calls.specs.Result.{effect}
 use Rattle.laws.proofs.Identifiers.{fresh-passes}

@@ -27,19 +27,16 @@ use Rattle.mode.specs.Acts.{ask}
 use Rattle.line.specs.Fit.{lineFits}
 use Rattle.line.specs.Mode.{steppedTo}
 use Rattle.store.specs.Store.{regionOf}
-use Rattle.relay.specs.RelayTests.{relayChannelTests}
-use Rattle.relay.specs.Take.{takeCallTests}
-use Rattle.relay.specs.HandOut.{handCallTests}
-use Rattle.writing.specs.Write.{acksFor, wroteLine, baseFor, emptyTests}
+use Rattle.writing.specs.Write.{acksFor, wroteLine, baseFor}
 use Rattle.writing.specs.Write as writes
-use Rattle.writing.specs.Send.{sendTests, heldPacket}
+use Rattle.writing.specs.Send.{heldPacket}
 use Rattle.arriving.specs.Effect.{heardLine, ackedLine, ackedAll, storedLine, storedStore}
-use Rattle.arriving.specs.Arrive.{arriveTests, newsLine, arrivedLine, arrivedStore}
+use Rattle.arriving.specs.Arrive.{newsLine, arrivedLine, arrivedStore}
 use Rattle.book.specs.Resting.{allSpan}
 use Rattle.book.specs.Book.{openIn, linesFit, bookFits, ownerFrom}
 use Rattle.calls.specs.Call.{Call}
 use Rattle.calls.specs.Call as call
-use Rattle.calls.specs.Order.{openTests, modeTests, addressTests, arrivalTests, lineFor, tests}
+use Rattle.calls.specs.Order.{openOrder, askOrder, takeOrder, sendOrder, handOutOrder, emptyOrder, arriveOrder, order, lineFor}
 use Rattle.calls.specs.Result.{resultOf, acceptedResult, effect}
 use Rattle.promise.specs.Build.{Does}
 use Rattle.promise.specs.Past.{Packet, Past, nothingYet, justOpened, tookPast, wrotePast, heardPast}
@@ -69,7 +66,7 @@ module _ (w t : Does) (a : Arrives) where
   inside = after f (after f fresh opening []) asks []
 
   pub begun : Goes f 0 0 5 98 fresh nothingYet fresh nothingYet inside justOpened inside justOpened
-  unfolding resultOf acceptedResult effect tests lineFor openTests modeTests bookFits linesFit allSpan openIn lineFits member noTwice allSpans owedFits modesFit sendingFits receivingFits sizes.sizesFit every askStep moved timed channelsFor steppedTo
+  unfolding resultOf acceptedResult effect order lineFor openOrder askOrder bookFits linesFit allSpan openIn lineFits member noTwice allSpans owedFits modesFit sendingFits receivingFits sizes.sizesFit every askStep moved timed channelsFor steppedTo
   begun =
       there (here (there (here stay
       (opens refl (named 5) 0 [] refl refl refl))
@@ -83,7 +80,7 @@ run f w = record { store1 = zeros; store2 = zeros; lines = (lit< tt, lit< tt); l
 
 -- a message that is taken is counted
 pub holds-nothing-fails : Demand3 holdsNothing → ⊥
-unfolding resultOf acceptedResult effect tests lineFor openTests modeTests bookFits linesFit allSpan openIn lineFits member noTwice allSpans owedFits modesFit sendingFits receivingFits sizes.sizesFit every askStep moved timed channelsFor steppedTo takeCallTests relayChannelTests
+unfolding resultOf acceptedResult effect order lineFor openOrder askOrder bookFits linesFit allSpan openIn lineFits member noTwice allSpans owedFits modesFit sendingFits receivingFits sizes.sizesFit every askStep moved timed channelsFor steppedTo takeOrder
 holds-nothing-fails d =
     let w = here (begun resultOf forgets lets) (calls refl (call.taking 0 1 (7 ∷ [])) [] refl (λ _. refl) (took 1 (7 ∷ []) refl)) in
     let n : _≡_ {A = ℕ} 1 0 = d .promised (run (instead resultOf forgets lets resultOf) w) .there 1 refl .counted in
@@ -116,7 +113,7 @@ module _ (a : Arrives) where
   sender = after g holds (call.sending 0 1 0) space
 
   one-sent : Goes g 0 0 5 98 fresh nothingYet fresh nothingYet sender (wrotePast past packet) start justOpened
-  unfolding resultOf acceptedResult effect tests lineFor openTests modeTests bookFits linesFit allSpan openIn lineFits member noTwice allSpans owedFits modesFit sendingFits receivingFits sizes.sizesFit every askStep moved timed channelsFor steppedTo takeCallTests relayChannelTests tookOne regionOf sendTests heldPacket heldOf rankOf lowest setBelow acksFor firstThree baseFor wroteLine packetOctets withoutThree
+  unfolding resultOf acceptedResult effect order lineFor openOrder askOrder bookFits linesFit allSpan openIn lineFits member noTwice allSpans owedFits modesFit sendingFits receivingFits sizes.sizesFit every askStep moved timed channelsFor steppedTo takeOrder tookOne regionOf sendOrder heldPacket heldOf rankOf lowest setBelow acksFor firstThree baseFor wroteLine packetOctets withoutThree
   one-sent =
       here (here (begun resultOf resultOf a)
       (calls refl (take 7) [] refl (λ _. refl) (took 1 (7 ∷ []) refl)))
@@ -124,12 +121,12 @@ module _ (a : Arrives) where
 
   -- the packet is such as the premise speaks of
   honest : Honest justOpened (wrotePast past packet) (packet .octets) packet
-  unfolding resultOf acceptedResult effect tests lineFor openTests modeTests bookFits linesFit allSpan openIn lineFits member noTwice allSpans owedFits modesFit sendingFits receivingFits sizes.sizesFit every askStep moved timed channelsFor steppedTo takeCallTests relayChannelTests tookOne heldOf rankOf lowest setBelow
+  unfolding resultOf acceptedResult effect order lineFor openOrder askOrder bookFits linesFit allSpan openIn lineFits member noTwice allSpans owedFits modesFit sendingFits receivingFits sizes.sizesFit every askStep moved timed channelsFor steppedTo takeOrder tookOne heldOf rankOf lowest setBelow
   honest = record { written = List·Memᴰ·head refl; same = refl; carries = also (lit< tt) none; names = also (lit< tt) none; acks = none }
 
 -- it came, and nothing can be handed out
 pub stores-nothing-fails : Demand3 storesNothing → ⊥
-unfolding resultOf acceptedResult effect tests lineFor openTests modeTests bookFits linesFit allSpan openIn lineFits member noTwice allSpans owedFits modesFit sendingFits receivingFits sizes.sizesFit every askStep moved timed channelsFor steppedTo takeCallTests relayChannelTests tookOne regionOf sendTests heldPacket heldOf rankOf lowest setBelow acksFor firstThree baseFor wroteLine packetOctets withoutThree arrivalTests addressTests arriveTests ownerFrom headAt numberAt baseAt acksAt ackAt acksServed payloadOf reading.sizeFits bitsAt handCallTests
+unfolding resultOf acceptedResult effect order lineFor openOrder askOrder bookFits linesFit allSpan openIn lineFits member noTwice allSpans owedFits modesFit sendingFits receivingFits sizes.sizesFit every askStep moved timed channelsFor steppedTo takeOrder tookOne regionOf sendOrder heldPacket heldOf rankOf lowest setBelow acksFor firstThree baseFor wroteLine packetOctets withoutThree arriveOrder ownerFrom headAt numberAt baseAt acksAt ackAt acksServed payloadOf reading.sizeFits bitsAt handOutOrder
 stores-nothing-fails d =
     let k = packet loses in
     let w = there (one-sent loses) (calls refl (call.arrival (k .octets)) [] refl (λ _. refl) (heard (k .octets) k refl refl (honest loses))) in
@@ -169,7 +166,7 @@ ack = emptyPacket skipped skippedPast 0 0 (does store1 skipped (call.empty 0 0) 
 
 -- message 8 waits, and is held at neither end
 pub first-only-fails : Demand3 firstOnly → ⊥
-unfolding resultOf acceptedResult effect tests lineFor openTests modeTests bookFits linesFit allSpan openIn lineFits member noTwice allSpans owedFits modesFit sendingFits receivingFits sizes.sizesFit every askStep moved timed channelsFor steppedTo takeCallTests relayChannelTests tookOne regionOf sendTests heldPacket heldOf rankOf lowest setBelow acksFor firstThree baseFor wroteLine packetOctets withoutThree arrivalTests addressTests arriveTests ownerFrom headAt numberAt baseAt acksAt ackAt acksServed payloadOf reading.sizeFits bitsAt arrivedLine newsLine heardLine heardBase ackedAll ackedLine ackedBy storedLine arrivalOf storedAt entered enters arrivedStore storedStore emptyTests writes.emptyPacket marks.there marks.renewed marks.enter marks.enterAll
+unfolding resultOf acceptedResult effect order lineFor openOrder askOrder bookFits linesFit allSpan openIn lineFits member noTwice allSpans owedFits modesFit sendingFits receivingFits sizes.sizesFit every askStep moved timed channelsFor steppedTo takeOrder tookOne regionOf sendOrder heldPacket heldOf rankOf lowest setBelow acksFor firstThree baseFor wroteLine packetOctets withoutThree arriveOrder ownerFrom headAt numberAt baseAt acksAt ackAt acksServed payloadOf reading.sizeFits bitsAt arrivedLine newsLine heardLine heardBase ackedAll ackedLine ackedBy storedLine arrivalOf storedAt entered enters arrivedStore storedStore emptyOrder writes.emptyPacket marks.there marks.renewed marks.enter marks.enterAll
 first-only-fails d =
     let w = here (there (there (here (here (here (begun resultOf resultOf skips)
     (calls refl (take skips 7) [] refl (λ _. refl) (took 1 (7 ∷ []) refl)))

@@ -43,7 +43,7 @@ use Rattle.book.proofs.OtherLines.{line-same}
 use Rattle.book.proofs.Facts.{line-fits}
 use Rattle.calls.specs.Call.{Call}
 use Rattle.calls.specs.Call as call
-use Rattle.calls.specs.Order.{openTests, modeTests, lineFor, tests}
+use Rattle.calls.specs.Order.{openOrder, askOrder, order, lineFor}
 use Rattle.calls.specs.Result.{CallResult, resultOf, acceptedResult, effect}
 use Rattle.promise.specs.Past.{Past, nothingYet, justOpened, heardPast}
 use Rattle.promise.specs.Run.{Gateway, does, after, lineAt, rankedMark, moded, heard, opens, calls, Step, Goes, stay, here, there, Run}
@@ -68,7 +68,7 @@ use Rattle.refuted.proofs.Answered.{round}
 
 -- the two begin, in a run of ours and of this build alike
 start : At 0
-unfolding resultOf acceptedResult effect tests lineFor openTests modeTests bookFits linesFit allSpan openIn lineFits member noTwice allSpans owedFits modesFit sendingFits receivingFits sizes.sizesFit every askStep moved timed channelsFor steppedTo
+unfolding resultOf acceptedResult effect order lineFor openOrder askOrder bookFits linesFit allSpan openIn lineFits member noTwice allSpans owedFits modesFit sendingFits receivingFits sizes.sizesFit every askStep moved timed channelsFor steppedTo
 start =
     let opening : Call = call.opening 0 (named 5) 0 in
     let asks : Call = call.mode 0 (ask modem 0) in

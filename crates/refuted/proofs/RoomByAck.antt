@@ -24,18 +24,16 @@ use Rattle.mode.specs.Request.{askStep}
 use Rattle.line.specs.Fit.{lineFits}
 use Rattle.line.specs.Mode.{steppedTo}
 use Rattle.store.specs.Store.{regionOf}
-use Rattle.relay.specs.RelayTests.{relayChannelTests}
-use Rattle.relay.specs.Take.{takeCallTests}
-use Rattle.writing.specs.Write.{acksFor, wroteLine, baseFor, emptyTests}
+use Rattle.writing.specs.Write.{acksFor, wroteLine, baseFor}
 use Rattle.writing.specs.Write as writes
-use Rattle.writing.specs.Send.{sendTests, heldPacket}
+use Rattle.writing.specs.Send.{heldPacket}
 use Rattle.arriving.specs.Effect.{heardLine, ackedLine, ackedAll, storedLine, storedStore}
-use Rattle.arriving.specs.Arrive.{arriveTests, newsLine, arrivedLine, arrivedStore}
+use Rattle.arriving.specs.Arrive.{newsLine, arrivedLine, arrivedStore}
 use Rattle.book.specs.Resting.{allSpan}
 use Rattle.book.specs.Book.{openIn, linesFit, bookFits, ownerFrom}
 use Rattle.calls.specs.Call.{Call}
 use Rattle.calls.specs.Call as call
-use Rattle.calls.specs.Order.{openTests, modeTests, addressTests, arrivalTests, lineFor, tests}
+use Rattle.calls.specs.Order.{openOrder, askOrder, takeOrder, sendOrder, emptyOrder, arriveOrder, order, lineFor}
 use Rattle.calls.specs.Result.{resultOf, acceptedResult, effect}
 use Rattle.promise.specs.Build.{Does}
 use Rattle.promise.specs.Past.{Packet, Past, nothingYet, justOpened, tookPast, wrotePast, heardPast}
@@ -81,7 +79,7 @@ abbrev fullPast : Past
 fullPast = tells justOpened eight
 
 taken : Goes f 0 0 5 98 fresh nothingYet fresh nothingYet full fullPast start justOpened
-unfolding resultOf acceptedResult effect tests lineFor openTests modeTests bookFits linesFit allSpan openIn lineFits member noTwice allSpans owedFits modesFit sendingFits receivingFits sizes.sizesFit every askStep moved timed channelsFor steppedTo takeCallTests relayChannelTests tookOne regionOf
+unfolding resultOf acceptedResult effect order lineFor openOrder askOrder bookFits linesFit allSpan openIn lineFits member noTwice allSpans owedFits modesFit sendingFits receivingFits sizes.sizesFit every askStep moved timed channelsFor steppedTo takeOrder tookOne regionOf
 taken =
     here (here (here (here (here (here (here (here (begun resultOf resultOf frees)
     (calls refl (taking 1) [] refl (λ _. refl) (took 2 (1 ∷ []) refl)))
@@ -119,7 +117,7 @@ abbrev freerPast : Past
 freerPast = heardPast (wrotePast fullPast one) ack
 
 acked : Goes f 0 0 5 98 fresh nothingYet fresh nothingYet freer freerPast answered answeredPast
-unfolding resultOf acceptedResult effect tests lineFor openTests modeTests bookFits linesFit allSpan openIn lineFits member noTwice allSpans owedFits modesFit sendingFits receivingFits sizes.sizesFit every askStep moved timed channelsFor steppedTo takeCallTests relayChannelTests tookOne regionOf sendTests heldPacket heldOf rankOf lowest setBelow acksFor firstThree baseFor wroteLine packetOctets withoutThree arrivalTests addressTests arriveTests ownerFrom headAt numberAt baseAt acksAt ackAt acksServed payloadOf reading.sizeFits bitsAt arrivedLine newsLine heardLine heardBase ackedAll ackedLine ackedBy storedLine arrivalOf storedAt entered enters arrivedStore storedStore emptyTests writes.emptyPacket marks.there marks.renewed marks.enter marks.enterAll
+unfolding resultOf acceptedResult effect order lineFor openOrder askOrder bookFits linesFit allSpan openIn lineFits member noTwice allSpans owedFits modesFit sendingFits receivingFits sizes.sizesFit every askStep moved timed channelsFor steppedTo takeOrder tookOne regionOf sendOrder heldPacket heldOf rankOf lowest setBelow acksFor firstThree baseFor wroteLine packetOctets withoutThree arriveOrder ownerFrom headAt numberAt baseAt acksAt ackAt acksServed payloadOf reading.sizeFits bitsAt arrivedLine newsLine heardLine heardBase ackedAll ackedLine ackedBy storedLine arrivalOf storedAt entered enters arrivedStore storedStore emptyOrder writes.emptyPacket marks.there marks.renewed marks.enter marks.enterAll
 acked =
     here (there (there (here taken
     (calls refl (call.sending 0 2 0) space refl (λ _. refl) (sent 2 0 refl)))
@@ -150,7 +148,7 @@ late = emptyPacket lost lostPast 0 0 (does f lost (call.empty 0 0) space)
 
 -- then it is held at neither end
 pub frees-on-ack-fails : Demand3 freesOnAck → ⊥
-unfolding resultOf acceptedResult effect tests lineFor openTests modeTests bookFits linesFit allSpan openIn lineFits member noTwice allSpans owedFits modesFit sendingFits receivingFits sizes.sizesFit every askStep moved timed channelsFor steppedTo takeCallTests relayChannelTests tookOne regionOf sendTests heldPacket heldOf rankOf lowest setBelow acksFor firstThree baseFor wroteLine packetOctets withoutThree arrivalTests addressTests arriveTests ownerFrom headAt numberAt baseAt acksAt ackAt acksServed payloadOf reading.sizeFits bitsAt arrivedLine newsLine heardLine heardBase ackedAll ackedLine ackedBy storedLine arrivalOf storedAt entered enters arrivedStore storedStore emptyTests writes.emptyPacket marks.there marks.renewed marks.enter marks.enterAll
+unfolding resultOf acceptedResult effect order lineFor openOrder askOrder bookFits linesFit allSpan openIn lineFits member noTwice allSpans owedFits modesFit sendingFits receivingFits sizes.sizesFit every askStep moved timed channelsFor steppedTo takeOrder tookOne regionOf sendOrder heldPacket heldOf rankOf lowest setBelow acksFor firstThree baseFor wroteLine packetOctets withoutThree arriveOrder ownerFrom headAt numberAt baseAt acksAt ackAt acksServed payloadOf reading.sizeFits bitsAt arrivedLine newsLine heardLine heardBase ackedAll ackedLine ackedBy storedLine arrivalOf storedAt entered enters arrivedStore storedStore emptyOrder writes.emptyPacket marks.there marks.renewed marks.enter marks.enterAll
 frees-on-ack-fails d =
     let w = here (there (there (here (here acked
     (calls refl (taking 9) [] refl (λ _. refl) (took 2 (9 ∷ []) refl)))

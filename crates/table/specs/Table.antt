@@ -47,7 +47,7 @@ use Rattle.book.specs.Book.{freshBook, openIn, linesFit, bookFits}
 use Rattle.book.specs.Closing.{closedAt}
 use Rattle.book.specs.declared.Book.{Book}
 use Rattle.calls.specs.Call as call
-use Rattle.calls.specs.Order.{openTests, closeTests, tests, lineFor}
+use Rattle.calls.specs.Order.{openOrder, closeOrder, order, lineFor}
 use Rattle.calls.specs.Result.{resultOf, acceptedResult, effect, slipOf}
 
 -- 1. Identifier 5, type 98, channel 1, number 0, base 0, payload 41
@@ -210,9 +210,9 @@ abbrev others : List ℕ
 others = 10 ∷ 11 ∷ 12 ∷ 13 ∷ 14 ∷ 15 ∷ 16 ∷ 17 ∷ 18 ∷ 19 ∷ 20 ∷ 21 ∷ 22 ∷ 23 ∷ 24 ∷ []
 
 pub row-9-taken : resultOf (call.opening 0 (named 9) 0) (closedOnes freshBook (9 ∷ others)) [] [] .answer ≡ refused TAKEN
-unfolding closedOnes resultOf acceptedResult effect tests lineFor openTests closeTests bookFits linesFit allSpan openIn lineFits closedAt member noTwice allSpans owedFits modesFit sendingFits receivingFits sizes.sizesFit every slipOf slipOctets
+unfolding closedOnes resultOf acceptedResult effect order lineFor openOrder closeOrder bookFits linesFit allSpan openIn lineFits closedAt member noTwice allSpans owedFits modesFit sendingFits receivingFits sizes.sizesFit every slipOf slipOctets
 row-9-taken = refl
 
 pub row-9-free : resultOf (call.opening 0 (named 9) 0) (closedOnes freshBook (9 ∷ 25 ∷ others)) [] [] .answer ≡ accepted []
-unfolding closedOnes resultOf acceptedResult effect tests lineFor openTests closeTests bookFits linesFit allSpan openIn lineFits closedAt member noTwice allSpans owedFits modesFit sendingFits receivingFits sizes.sizesFit every slipOf slipOctets
+unfolding closedOnes resultOf acceptedResult effect order lineFor openOrder closeOrder bookFits linesFit allSpan openIn lineFits closedAt member noTwice allSpans owedFits modesFit sendingFits receivingFits sizes.sizesFit every slipOf slipOctets
 row-9-free = refl

@@ -1,4 +1,4 @@
-use Rattle.calls.specs.Order.{openTests}
+use Rattle.calls.specs.Parts.{openTests}
 use borrow.Author.Tests.{not-true, not-false}
 use borrow.Author.Needs.{needs}
 use Rattle.calls.proofs.may_open_line.Statement.{statement}

@@ -1,7 +1,7 @@
-use Rattle.calls.specs.Order.{fitBook, roomy, lineNumber}
-use Rattle.ground.proofs.Verdicts.{verdict-on, verdict-stop}
+use Rattle.calls.specs.Parts.{fitBook, roomy, lineNumber}
+use Rattle.calls.proofs.Stops.{stops, goes-on}
 use mathlib.Core.List.{[], _∷_}
-use mathlib.Core.Path.{sym, _∙_}
+use mathlib.Core.Path.{refl}
 use borrow.Author.Tests.{le-leb, lt-leb}
 use borrow.Author.Needs.{needs}
 use Rattle.calls.proofs.store_line_verdict.Statement.{statement}
@@ -17,13 +17,13 @@ enum-told : tie.Need-enum-told
 enum-told c = search needs
 
 returns : tie.Need-returns
-returns c = sym (verdict-stop (fitBook (c .before .before .before .before .args .book) ∷ roomy (c .before .before .before .before .args .store) ∷ []) (lineNumber (c .before .before .before .before .args .line) ∷ []) (sym (c .before .before .before .store-verdict .ensures) ∙ c .before .earlier .given .1))
+returns c = let a = c .before .before .before .before .args in stops (fitBook (a .book) ∷ roomy (a .store) ∷ []) (lineNumber (a .line) ∷ []) refl (c .before .before .before .store-verdict .ensures) (c .before .earlier .given .1)
 
 returns-2 : tie.Need-returns-2
-returns-2 c = sym (verdict-on (fitBook (c .before .before .before .before .args .book) ∷ roomy (c .before .before .before .before .args .store) ∷ []) (lineNumber (c .before .before .before .before .args .line) ∷ []) (sym (c .before .before .before .store-verdict .ensures) ∙ c .before .enum-told .given .1) ∙ simp (le-leb _ _ (c .if1 .taken)))
+returns-2 c = let a = c .before .before .before .before .args in goes-on (fitBook (a .book) ∷ roomy (a .store) ∷ []) (lineNumber (a .line) ∷ []) refl (c .before .before .before .store-verdict .ensures) (c .before .enum-told .given .1) (simp (le-leb _ _ (c .if1 .taken)))
 
 returns-3 : tie.Need-returns-3
-returns-3 c = sym (verdict-on (fitBook (c .before .before .before .before .args .book) ∷ roomy (c .before .before .before .before .args .store) ∷ []) (lineNumber (c .before .before .before .before .args .line) ∷ []) (sym (c .before .before .before .store-verdict .ensures) ∙ c .before .enum-told .given .1) ∙ simp (lt-leb _ _ (c .if1 .left)))
+returns-3 c = let a = c .before .before .before .before .args in goes-on (fitBook (a .book) ∷ roomy (a .store) ∷ []) (lineNumber (a .line) ∷ []) refl (c .before .before .before .store-verdict .ensures) (c .before .enum-told .given .1) (simp (lt-leb _ _ (c .if1 .left)))
 
 pub store-line-verdict-spec : {M : Type 1} → statement M
 store-line-verdict-spec =

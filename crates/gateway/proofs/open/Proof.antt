@@ -1,7 +1,8 @@
 use Rattle.calls.proofs.Results.{did-refused, result-accepted}
 use Rattle.calls.specs.Result.{resultWith, acceptedResult, effect}
-use Rattle.calls.proofs.FirstTests.{line-passed}
-use Rattle.calls.specs.Order.{openTests, tests, lineFor}
+use Rattle.calls.proofs.FirstTests.{asked-line}
+use Rattle.calls.proofs.OrderParts.{open-parts}
+use Rattle.calls.specs.Order.{order, lineFor}
 use Rattle.calls.specs.Call as call
 use Rattle.book.specs.declared.Book.{Book}
 use Rattle.book.specs.Book.{withLine}
@@ -26,14 +27,14 @@ opened-with-requires : tie.Need-opened-with-requires
 opened-with-requires c κs = search needs
 
 with-line-requires : tie.Need-with-line-requires
-with-line-requires c κs = let a = c .before .before .before .before .args in line-passed (a .book) (a .line) (openTests (a .book) (a .line) (a .settings)) (sym (c .before .before .before .may-open .ensures) ∙ c .before .enum-told .given .1) .0 .number
+with-line-requires c κs = let a = c .before .before .before .before .args in asked-line (open-parts (a .book) (a .line) (a .settings)) (c .before .before .before .may-open .ensures) (c .before .enum-told .given .1) .0 .number
 
 returns : tie.Need-returns
-unfolding tests acceptedResult effect lineFor
+unfolding order acceptedResult effect lineFor
 returns c = λ store out. let a = c .before .before .before .before .args in sym (did-refused (call.opening (a .line) (a .settings) (a .time)) (a .book) store out (sym (c .before .before .before .may-open .ensures) ∙ c .before .verdict .given .1))
 
 returns-2 : tie.Need-returns-2
-unfolding tests acceptedResult effect lineFor
+unfolding order acceptedResult effect lineFor
 returns-2 c =
     λ store out. let a = c .before .before .before .before .before .args in
     let b = c .with-line .ensures ∙ ap (λ (l : Line). withLine (a .book) (a .line) l) (c .before .opened-with .ensures) in

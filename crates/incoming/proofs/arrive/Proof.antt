@@ -1,7 +1,7 @@
 use Rattle.incoming.proofs.Passing.{arrive-refuses, arrive-passes, arrive-line, arrive-addressed}
 use Rattle.calls.proofs.Results.{did-refused, result-accepted}
 use Rattle.calls.specs.Result.{resultWith, acceptedResult, effect}
-use Rattle.calls.specs.Order.{tests, lineFor}
+use Rattle.calls.specs.Order.{order, lineFor}
 use Rattle.calls.specs.Call as call
 use Rattle.book.proofs.Turns.{many}
 use Rattle.book.specs.Book.{lineOf, withLine}
@@ -41,14 +41,14 @@ with-line-requires : tie.Need-with-line-requires
 with-line-requires c κs = let a = c .before .before .before .before .before .before .before .before .before .before .before .args in let k : length (a .book .lines) ≡ 4 = many _ (a .book .lines) (c .before .before .before .before .before .before .before .before .before .before .before .good .0 .1 .1 .0 .1 .0 .1) in let d = arrive-addressed (a .book) (length (now (a .store))) (now (a .packet)) (c .before .before .before .before .before .before .before .before .may-arrive .ensures) (c .before .before .before .before .before .before .may2 .given .1) in omega (arith, d .number, k)
 
 returns : tie.Need-returns
-unfolding tests acceptedResult effect lineFor
+unfolding order acceptedResult effect lineFor
 returns c = λ out. let a = c .before .before .before .before .before .before .args in sym (did-refused (call.arrival (now (a .packet))) (a .book) (now (a .store)) out (arrive-refuses (a .book) (length (now (a .store))) (now (a .packet)) (c .before .before .before .may-arrive .ensures) (c .before .may .given .1)))
 
 same-length : tie.Need-same-length
 same-length c = search needs
 
 returns-2 : tie.Need-returns-2
-unfolding tests acceptedResult effect lineFor
+unfolding order acceptedResult effect lineFor
 returns-2 c =
     λ out. let a = c .before .before .before .before .before .before .before .before .before .before .before .before .args in
     let e = c .before .before .before .before .before .before .before .before .before .may-arrive .ensures in

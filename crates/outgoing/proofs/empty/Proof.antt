@@ -1,10 +1,11 @@
 use Rattle.calls.proofs.Results.{did-refused, result-accepted}
 use Rattle.calls.specs.Result.{resultWith, acceptedResult, effect}
-use Rattle.calls.proofs.FirstTests.{line-passed}
-use Rattle.calls.specs.Order.{tests, lineFor}
+use Rattle.calls.proofs.FirstTests.{asked-line}
+use Rattle.calls.proofs.OrderParts.{empty-parts}
+use Rattle.calls.specs.Order.{order, lineFor}
 use Rattle.calls.specs.Call as call
-use Rattle.book.specs.Book.{lineOf, withLine}
-use Rattle.writing.specs.Write.{emptyTests, emptyPacket, wroteLine}
+use Rattle.book.specs.Book.{withLine}
+use Rattle.writing.specs.Write.{emptyPacket, wroteLine}
 use Rattle.line.specs.declared.Line.{Line}
 use Rattle.ground.specs.declared.WriteAnswer.the-variants.{Wrote}
 use Rattle.ground.specs.Answer.{writeSays}
@@ -26,23 +27,23 @@ enum-told : tie.Need-enum-told
 enum-told c = search needs
 
 line-requires : tie.Need-line-requires
-line-requires c κs = let a = c .before .before .before .before .args in line-passed (a .book) (a .line) (emptyTests (lineOf (a .book) (a .line)) (a .channel) (length (now (a .out)))) (sym (c .before .before .may-write-empty .ensures) ∙ c .enum-told .given .1) .0 .number
+line-requires c κs = let a = c .before .before .before .before .args in asked-line (empty-parts (a .book) (a .line) (a .channel) (length (now (a .out)))) (c .before .before .may-write-empty .ensures) (c .enum-told .given .1) .0 .number
 
 write-empty-requires : tie.Need-write-empty-requires
-write-empty-requires c κs = let a = c .before .before .before .before .before .before .args in let o = line-passed (a .book) (a .line) (emptyTests (lineOf (a .book) (a .line)) (a .channel) (length (now (a .out)))) (sym (c .before .before .before .before .may-write-empty .ensures) ∙ c .before .before .enum-told .given .1) in rw (c .before .line .ensures) (o .0 .line, o .1)
+write-empty-requires c κs = let a = c .before .before .before .before .before .before .args in let o = asked-line (empty-parts (a .book) (a .line) (a .channel) (length (now (a .out)))) (c .before .before .before .before .may-write-empty .ensures) (c .before .before .enum-told .given .1) in rw (c .before .line .ensures) (o .0 .line, o .1)
 
 with-line-requires : tie.Need-with-line-requires
-with-line-requires c κs = let a = c .before .before .before .before .before .before .before .before .before .args in line-passed (a .book) (a .line) (emptyTests (lineOf (a .book) (a .line)) (a .channel) (length (now (a .out)))) (sym (c .before .before .before .before .before .before .before .may-write-empty .ensures) ∙ c .before .before .before .before .before .enum-told .given .1) .0 .number
+with-line-requires c κs = let a = c .before .before .before .before .before .before .before .before .before .args in asked-line (empty-parts (a .book) (a .line) (a .channel) (length (now (a .out)))) (c .before .before .before .before .before .before .before .may-write-empty .ensures) (c .before .before .before .before .before .enum-told .given .1) .0 .number
 
 returns : tie.Need-returns
-unfolding tests acceptedResult effect lineFor
+unfolding order acceptedResult effect lineFor
 returns c = λ store. let a = c .before .before .before .before .before .args in sym (did-refused (call.empty (a .line) (a .channel)) (a .book) store (now (a .out)) (sym (c .before .before .before .may-write-empty .ensures) ∙ c .before .verdict .given .1))
 
 same-length : tie.Need-same-length
 same-length c = search needs
 
 returns-2 : tie.Need-returns-2
-unfolding tests acceptedResult effect lineFor
+unfolding order acceptedResult effect lineFor
 returns-2 c =
     λ store. let a = c .before .before .before .before .before .before .before .before .before .before .args in
     let v = sym (c .before .before .before .before .before .before .before .before .may-write-empty .ensures) ∙ c .before .before .before .before .before .before .enum-told .given .1 in

@@ -1,10 +1,9 @@
 use Rattle.calls.proofs.Results.{did-refused, result-accepted, same-line}
 use Rattle.calls.specs.Result.{resultWith, acceptedResult, effect}
-use Rattle.calls.proofs.FirstTests.{line-passed}
-use Rattle.calls.specs.Order.{tests, lineFor}
+use Rattle.calls.proofs.FirstTests.{asked-line}
+use Rattle.calls.proofs.OrderParts.{report-parts}
+use Rattle.calls.specs.Order.{order, lineFor}
 use Rattle.calls.specs.Call as call
-use Rattle.book.specs.Book.{lineOf}
-use Rattle.relay.specs.RelayTests.{relayChannelTests}
 use Rattle.line.specs.declared.Line.{Line}
 use Rattle.line.specs.Line.{sendingOf}
 use Rattle.sending.specs.Sending.{heldCount}
@@ -25,17 +24,17 @@ enum-told : tie.Need-enum-told
 enum-told c = search needs
 
 line-requires : tie.Need-line-requires
-line-requires c κs = let a = c .before .before .before .args in line-passed (a .book) (a .line) (relayChannelTests (lineOf (a .book) (a .line)) (a .channel)) (sym (c .before .before .may-report .ensures) ∙ c .enum-told .given .1) .0 .number
+line-requires c κs = let a = c .before .before .before .args in asked-line (report-parts (a .book) (a .line) (a .channel)) (c .before .before .may-report .ensures) (c .enum-told .given .1) .0 .number
 
 held-requires : tie.Need-held-requires
 held-requires c κs = search needs
 
 returns : tie.Need-returns
-unfolding tests acceptedResult effect lineFor
+unfolding order acceptedResult effect lineFor
 returns c = λ store out. let a = c .before .before .before .before .args in sym (did-refused (call.report (a .line) (a .channel)) (a .book) store out (sym (c .before .before .before .may-report .ensures) ∙ c .before .verdict .given .1))
 
 returns-2 : tie.Need-returns-2
-unfolding tests acceptedResult effect lineFor
+unfolding order acceptedResult effect lineFor
 returns-2 c =
     λ store out. let a = c .before .before .before .before .before .args in
     let n = c .held .ensures ∙ ap (λ (l : Line). heldCount (sendingOf l (a .channel))) (c .before .line .ensures) in

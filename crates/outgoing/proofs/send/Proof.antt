@@ -1,7 +1,7 @@
 use Rattle.outgoing.proofs.Passing.{send-refuses, send-passes, send-is, send-on, sendable}
 use Rattle.calls.proofs.Results.{did-refused, result-accepted}
 use Rattle.calls.specs.Result.{resultWith, acceptedResult, effect}
-use Rattle.calls.specs.Order.{tests, lineFor}
+use Rattle.calls.specs.Order.{order, lineFor}
 use Rattle.calls.specs.Call as call
 use Rattle.book.specs.Book.{withLine}
 use Rattle.writing.specs.Send.{heldPacket}
@@ -41,14 +41,14 @@ with-line-requires : tie.Need-with-line-requires
 with-line-requires c κs = let a = c .before .before .before .before .before .before .before .before .before .before .before .args in send-on (a .book) (length (now (a .store))) (a .line) (a .channel) (a .rank) (length (now (a .out))) (c .before .before .before .before .before .before .before .before .may-send .ensures) (c .before .before .before .before .before .before .may2 .given .1) .0 .number
 
 returns : tie.Need-returns
-unfolding tests acceptedResult effect lineFor
+unfolding order acceptedResult effect lineFor
 returns c = let a = c .before .before .before .before .before .before .args in sym (did-refused (call.sending (a .line) (a .channel) (a .rank)) (a .book) (now (a .store)) (now (a .out)) (send-refuses (a .book) (length (now (a .store))) (a .line) (a .channel) (a .rank) (length (now (a .out))) (c .before .before .before .may-send .ensures) (c .before .may .given .1)))
 
 same-length : tie.Need-same-length
 same-length c = search needs
 
 returns-2 : tie.Need-returns-2
-unfolding tests acceptedResult effect lineFor
+unfolding order acceptedResult effect lineFor
 returns-2 c =
     let a = c .before .before .before .before .before .before .before .before .before .before .before .before .args in
     let e = c .before .before .before .before .before .before .before .before .before .may-send .ensures in

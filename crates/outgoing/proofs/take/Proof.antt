@@ -1,10 +1,11 @@
 use Rattle.calls.proofs.Results.{did-refused, result-accepted}
 use Rattle.calls.specs.Result.{resultWith, acceptedResult, effect}
-use Rattle.calls.proofs.FirstTests.{both-passed}
-use Rattle.calls.specs.Order.{tests, lineFor}
+use Rattle.calls.proofs.FirstTests.{asked-both}
+use Rattle.calls.proofs.OrderParts.{take-parts}
+use Rattle.calls.specs.Order.{order, lineFor}
 use Rattle.calls.specs.Call as call
-use Rattle.book.specs.Book.{lineOf, withLine}
-use Rattle.relay.specs.Take.{takeCallTests, tookLine, tookStore}
+use Rattle.book.specs.Book.{withLine}
+use Rattle.relay.specs.Take.{tookLine, tookStore}
 use Rattle.line.specs.declared.Line.{Line}
 use Rattle.line.specs.Line.{sendingOf}
 use Rattle.sending.specs.declared.Sending.{Sending}
@@ -31,7 +32,7 @@ enum-told : tie.Need-enum-told
 enum-told c = search needs
 
 line-requires : tie.Need-line-requires
-line-requires c κs = let a = c .before .before .before .before .before .args in both-passed (a .book) (length (now (a .store))) (a .line) (takeCallTests (lineOf (a .book) (a .line)) (a .channel) (length (now (a .message)))) (sym (c .before .before .may-take .ensures) ∙ c .enum-told .given .1) .0 .number
+line-requires c κs = let a = c .before .before .before .before .before .args in asked-both (length (now (a .store))) (take-parts (a .book) (length (now (a .store))) (a .line) (a .channel) (length (now (a .message)))) (c .before .before .may-take .ensures) (c .enum-told .given .1) .0 .number
 
 sending-requires : tie.Need-sending-requires
 sending-requires c κs = search needs
@@ -40,20 +41,20 @@ cast-number : tie.Need-cast-number
 cast-number c = record { fits = omega (arith, mask-lt (c .before .sending .result .taken) 14) }
 
 take-requires : tie.Need-take-requires
-take-requires c κs = let a = c .before .before .before .before .before .before .before .before .before .args in let k = both-passed (a .book) (length (now (a .store))) (a .line) (takeCallTests (lineOf (a .book) (a .line)) (a .channel) (length (now (a .message)))) (sym (c .before .before .before .before .before .before .may-take .ensures) ∙ c .before .before .before .before .enum-told .given .1) in rw (c .before .before .before .line .ensures) (k .0 .line, k .0 .number, k .1, k .2)
+take-requires c κs = let a = c .before .before .before .before .before .before .before .before .before .args in let k = asked-both (length (now (a .store))) (take-parts (a .book) (length (now (a .store))) (a .line) (a .channel) (length (now (a .message)))) (c .before .before .before .before .before .before .may-take .ensures) (c .before .before .before .before .enum-told .given .1) in rw (c .before .before .before .line .ensures) (k .0 .line, k .0 .number, k .1, k .2)
 
 with-line-requires : tie.Need-with-line-requires
-with-line-requires c κs = let a = c .before .before .before .before .before .before .before .before .before .before .before .before .args in both-passed (a .book) (length (now (a .store))) (a .line) (takeCallTests (lineOf (a .book) (a .line)) (a .channel) (length (now (a .message)))) (sym (c .before .before .before .before .before .before .before .before .before .may-take .ensures) ∙ c .before .before .before .before .before .before .before .enum-told .given .1) .0 .number
+with-line-requires c κs = let a = c .before .before .before .before .before .before .before .before .before .before .before .before .args in asked-both (length (now (a .store))) (take-parts (a .book) (length (now (a .store))) (a .line) (a .channel) (length (now (a .message)))) (c .before .before .before .before .before .before .before .before .before .may-take .ensures) (c .before .before .before .before .before .before .before .enum-told .given .1) .0 .number
 
 returns : tie.Need-returns
-unfolding tests acceptedResult effect lineFor
+unfolding order acceptedResult effect lineFor
 returns c = λ out. let a = c .before .before .before .before .before .before .args in sym (did-refused (call.taking (a .line) (a .channel) (now (a .message))) (a .book) (now (a .store)) out (sym (c .before .before .before .may-take .ensures) ∙ c .before .verdict .given .1))
 
 same-length : tie.Need-same-length
 same-length c = search needs
 
 returns-2 : tie.Need-returns-2
-unfolding tests acceptedResult effect lineFor
+unfolding order acceptedResult effect lineFor
 returns-2 c =
     λ out. let a = c .before .before .before .before .before .before .before .before .before .before .before .before .before .args in
     let l = c .before .before .before .before .before .before .before .line .ensures in

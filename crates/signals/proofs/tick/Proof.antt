@@ -1,21 +1,12 @@
-use mathlib.Core.Path.{subst}
-use Rattle.mode.specs.declared.TickStep.{TickStep}
 use Rattle.signals.specs.Tries.{Tries}
 use Rattle.signals.proofs.Tries.{tick-tries}
-use Rattle.calls.proofs.Results.{did-refused, moved-did}
-use Rattle.calls.specs.Result.{resultWith}
-use Rattle.calls.proofs.FirstTests.{line-passed}
-use Rattle.calls.specs.Order.{fitBook, lineNumber, isOpen, actTests, modeTests, tests}
-use Rattle.calls.specs.Call as call
-use Rattle.ground.proofs.Verdicts.{verdict-stop}
-use Rattle.book.specs.Book.{lineOf, withLine}
-use Rattle.line.specs.declared.Line.{Line}
-use Rattle.line.specs.Mode.{steppedTo}
+use Rattle.calls.proofs.Results.{mode-refused, mode-does}
+use Rattle.calls.proofs.FirstTests.{asked-open}
+use Rattle.mode.specs.declared.TickStep.{TickStep}
 use Rattle.mode.specs.Says.{tickSays}
-use Rattle.mode.specs.Recovery.{tickStep}
+use Rattle.mode.specs.Acts.{Outcome}
 use Rattle.mode.specs.Acts as act
-use mathlib.Core.List.{[], _∷_}
-use mathlib.Core.Path.{sym, ap, _∙_}
+use mathlib.Core.Path.{sym, ap, subst}
 use borrow.Author.Needs.{needs}
 use Rattle.signals.proofs.tick.Statement.{statement}
 use Rattle.signals.proofs.tick.Tie as tie
@@ -30,7 +21,7 @@ enum-told : tie.Need-enum-told
 enum-told c = search needs
 
 line-requires : tie.Need-line-requires
-line-requires c κs = let a = c .before .before .before .args in line-passed (a .book) (a .line) (isOpen (lineOf (a .book) (a .line)) ∷ []) (sym (c .before .before .may-change-mode .ensures) ∙ c .enum-told .given .1) .0 .number
+line-requires c κs = let a = c .before .before .before .args in asked-open (a .book) (a .line) (c .before .before .may-change-mode .ensures) (c .enum-told .given .1) .number
 
 tick-requires : tie.Need-tick-requires
 tick-requires c κs = search needs
@@ -39,21 +30,21 @@ stepped-requires : tie.Need-stepped-requires
 stepped-requires c κs = search needs
 
 with-line-requires : tie.Need-with-line-requires
-with-line-requires c κs = let a = c .before .before .before .before .before .before .args in line-passed (a .book) (a .line) (isOpen (lineOf (a .book) (a .line)) ∷ []) (sym (c .before .before .before .before .before .may-change-mode .ensures) ∙ c .before .before .before .enum-told .given .1) .0 .number
+with-line-requires c κs = let a = c .before .before .before .before .before .before .args in asked-open (a .book) (a .line) (c .before .before .before .before .before .may-change-mode .ensures) (c .before .before .before .enum-told .given .1) .number
+
+abbrev said : TickStep → Outcome
+said h = record { said = tickSays (h .answer); modes = h .modes; channels = h .channels }
 
 returns : tie.Need-returns
-unfolding tests modeTests
-returns c = (λ store out. let a = c .before .before .before .before .args in sym (did-refused (call.mode (a .line) (act.tick (a .time))) (a .book) store out (verdict-stop (fitBook (a .book) ∷ lineNumber (a .line) ∷ isOpen (lineOf (a .book) (a .line)) ∷ []) (actTests (lineOf (a .book) (a .line) .modes) (act.tick (a .time))) (sym (c .before .before .before .may-change-mode .ensures) ∙ c .before .verdict .given .1))), tt)
+returns c = let a = c .before .before .before .before .args in (mode-refused (a .book) (a .line) (act.tick (a .time)) (c .before .before .before .may-change-mode .ensures) (c .before .verdict .given .1), tt)
 
 returns-2 : tie.Need-returns-2
-unfolding tests modeTests
 returns-2 c =
-    let a = c .before .before .before .before .before .before .before .args in
-    let l = c .before .before .before .line .ensures in
-    let h = c .before .before .tick .ensures .0 ∙ ap (λ (k : Line). tickStep (k .modes) (a .time)) l in
-    let s = c .before .stepped .ensures ∙ (λ t. steppedTo (l t) (h t .modes) (h t .channels)) in
-    let b = c .with-line .ensures ∙ ap (λ (k : Line). withLine (a .book) (a .line) k) s in
-    (λ store out. (λ t. resultWith (tickSays (h t .answer)) (b t) store out) ∙ moved-did (a .book) (a .line) (act.tick (a .time)) store out (sym (c .before .before .before .before .before .before .may-change-mode .ensures) ∙ c .before .before .before .before .enum-told .given .1), subst (λ (t : TickStep). Tries (t .answer)) (sym h) (tick-tries (lineOf (a .book) (a .line) .modes) (a .time)))
+    let a = c .before .before .before .before .before .before .before .args in (
+      mode-does (a .book) (a .line) (act.tick (a .time)) (c .before .before .before .before .before .before .may-change-mode .ensures) (c .before .before .before .before .enum-told .given .1) (c .before .before .before .line .ensures)
+          (ap (λ (h : TickStep). said h) (c .before .before .tick .ensures .0)) (c .before .stepped .ensures) (c .with-line .ensures),
+      subst (λ (t : TickStep). Tries (t .answer)) (sym (c .before .before .tick .ensures .0)) (tick-tries (c .before .before .before .line .result .modes) (a .time)),
+    )
 
 pub tick-spec : {M : Type 1} → statement M
 tick-spec =

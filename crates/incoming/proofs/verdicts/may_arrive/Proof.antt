@@ -1,9 +1,10 @@
 use Rattle.incoming.proofs.Arrivals.{arrives}
-use Rattle.calls.specs.Order.{fitBook, roomy, arrivalTests}
-use Rattle.ground.proofs.Verdicts.{verdict-on, verdict-stop}
+use Rattle.calls.specs.Parts.{fitBook, roomy, arrivalTests}
+use Rattle.calls.proofs.OrderParts.{arrive-parts}
+use Rattle.calls.proofs.Stops.{stops, goes-on}
 use denote.Ref.{now}
 use mathlib.Core.List.{[], _∷_}
-use mathlib.Core.Path.{sym, ap, _∙_}
+use mathlib.Core.Path.{refl, ap, _∙_}
 use borrow.Author.Needs.{needs}
 use Rattle.incoming.proofs.verdicts.may_arrive.Statement.{statement}
 use Rattle.incoming.proofs.verdicts.may_arrive.Tie as tie
@@ -21,10 +22,10 @@ may-arrive-at-requires : tie.Need-may-arrive-at-requires
 may-arrive-at-requires c κs = search needs
 
 returns : tie.Need-returns
-returns c = let a = c .before .before .before .before .before .args in sym (ap (arrives (a .book) (now (a .s))) (verdict-stop (fitBook (a .book) ∷ roomy (a .store) ∷ []) (arrivalTests (a .book) (now (a .s))) (sym (c .before .before .before .store-verdict .ensures) ∙ c .before .earlier .given .1)))
+returns c = let a = c .before .before .before .before .before .args in ap (arrives (a .book) (now (a .s))) (stops (fitBook (a .book) ∷ roomy (a .store) ∷ []) (arrivalTests (a .book) (now (a .s))) (arrive-parts (a .book) (a .store) (now (a .s))) (c .before .before .before .store-verdict .ensures) (c .before .earlier .given .1))
 
 returns-2 : tie.Need-returns-2
-returns-2 c = let a = c .before .before .before .before .before .args in c .may-arrive-at .ensures ∙ sym (ap (arrives (a .book) (now (a .s))) (verdict-on (fitBook (a .book) ∷ roomy (a .store) ∷ []) (arrivalTests (a .book) (now (a .s))) (sym (c .before .before .before .store-verdict .ensures) ∙ c .before .enum-told .given .1)))
+returns-2 c = let a = c .before .before .before .before .before .args in c .may-arrive-at .ensures ∙ ap (arrives (a .book) (now (a .s))) (goes-on (fitBook (a .book) ∷ roomy (a .store) ∷ []) (arrivalTests (a .book) (now (a .s))) (arrive-parts (a .book) (a .store) (now (a .s))) (c .before .before .before .store-verdict .ensures) (c .before .enum-told .given .1) refl)
 
 pub may-arrive-spec : {M : Type 1} → statement M
 may-arrive-spec =

@@ -1,15 +1,16 @@
 use Rattle.calls.proofs.FirstTests.{on-both}
-use Rattle.calls.specs.Order.{fitBook, roomy, lineNumber}
+use Rattle.calls.specs.Parts.{fitBook, roomy, lineNumber}
 use Rattle.book.specs.Book.{lineOf}
 use Rattle.writing.specs.declared.SendVerdict.the-variants.{Message, Refused}
 use Rattle.writing.specs.declared.SendVerdict.{SendVerdict}
 use Rattle.writing.specs.Send.{sendTests, sendVerdict, ranked, heldIn}
 use Rattle.line.specs.declared.Line.{Line}
-use Rattle.ground.proofs.Verdicts.{verdict-on, verdict-stop}
+use Rattle.calls.proofs.OrderParts.{send-parts}
+use Rattle.calls.proofs.Stops.{stops, goes-on}
 use Rattle.ground.specs.declared.Verdict.{Verdict}
 use Rattle.ground.specs.Refusal.{settle}
 use mathlib.Core.List.{[], _∷_}
-use mathlib.Core.Path.{sym, ap, _∙_}
+use mathlib.Core.Path.{refl, sym, ap, _∙_}
 use borrow.Author.Needs.{needs}
 use Rattle.outgoing.proofs.verdicts.may_send.Statement.{statement}
 use Rattle.outgoing.proofs.verdicts.may_send.Tie as tie
@@ -31,11 +32,19 @@ may-send-requires c κs = rw (c .line .ensures) (on-both (c .before .before .bef
 
 returns : tie.Need-returns
 unfolding sendVerdict
-returns c = let a = c .before .before .before .before .args in sym (ap (λ (v : Verdict). settle {A = SendVerdict} v Refused (Message (heldIn (ranked (lineOf (a .book) (a .line)) (a .channel) (a .rank))))) (verdict-stop (fitBook (a .book) ∷ roomy (a .store) ∷ lineNumber (a .line) ∷ []) (sendTests (lineOf (a .book) (a .line)) (a .channel) (a .rank) (a .space)) (sym (c .before .before .before .store-line-verdict .ensures) ∙ c .before .earlier .given .1)))
+returns c =
+    let a = c .before .before .before .before .args in
+    ap (λ (v : Verdict). settle {A = SendVerdict} v Refused (Message (heldIn (ranked (lineOf (a .book) (a .line)) (a .channel) (a .rank)))))
+    (stops (fitBook (a .book) ∷ roomy (a .store) ∷ lineNumber (a .line) ∷ []) (sendTests (lineOf (a .book) (a .line)) (a .channel) (a .rank) (a .space)) (send-parts (a .book) (a .store) (a .line) (a .channel) (a .rank) (a .space)) (c .before .before .before .store-line-verdict .ensures) (c .before .earlier .given .1))
 
 returns-2 : tie.Need-returns-2
 unfolding sendVerdict
-returns-2 c = let a = c .before .before .before .before .before .args in c .may-send .ensures ∙ ap (λ (l : Line). sendVerdict l (a .channel) (a .rank) (a .space)) (c .before .line .ensures) ∙ sym (ap (λ (v : Verdict). settle {A = SendVerdict} v Refused (Message (heldIn (ranked (lineOf (a .book) (a .line)) (a .channel) (a .rank))))) (verdict-on (fitBook (a .book) ∷ roomy (a .store) ∷ lineNumber (a .line) ∷ []) (sendTests (lineOf (a .book) (a .line)) (a .channel) (a .rank) (a .space)) (sym (c .before .before .before .before .store-line-verdict .ensures) ∙ c .before .before .enum-told .given .1)))
+returns-2 c =
+    let a = c .before .before .before .before .before .args in
+    c .may-send .ensures
+    ∙ ap (λ (l : Line). sendVerdict l (a .channel) (a .rank) (a .space)) (c .before .line .ensures)
+    ∙ ap (λ (v : Verdict). settle {A = SendVerdict} v Refused (Message (heldIn (ranked (lineOf (a .book) (a .line)) (a .channel) (a .rank)))))
+    (goes-on (fitBook (a .book) ∷ roomy (a .store) ∷ lineNumber (a .line) ∷ []) (sendTests (lineOf (a .book) (a .line)) (a .channel) (a .rank) (a .space)) (send-parts (a .book) (a .store) (a .line) (a .channel) (a .rank) (a .space)) (c .before .before .before .before .store-line-verdict .ensures) (c .before .before .enum-told .given .1) refl)
 
 pub may-send-spec : {M : Type 1} → statement M
 may-send-spec =

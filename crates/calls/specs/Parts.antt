@@ -1,0 +1,80 @@
+-- How the parts that the crates below prove make up the lists of `Order`: what every call asks first, and behind it what its line and
+-- its channel ask. proofs/OrderParts.antt proves of each call that the parts put together are its list.
+-- Assumes nothing.
+use Prim.Native.Nat.{ℕ}
+use mathlib.Core.Bool.{not}
+use mathlib.Core.List.{List, [], _∷_, _++_}
+use lib.Dec.{leb}
+use lib.ListN.{length}
+use Rattle.ground.specs.Refusal.{Test, must}
+use Rattle.ground.specs.declared.Refusal.the-variants.{NOLINE, ROOM, TAKEN, RANGE, BOOK}
+use Rattle.packet.specs.Read.{headTests}
+use Rattle.mode.specs.Acts.{Act}
+use Rattle.mode.specs.Acts as act
+use Rattle.mode.specs.Indication.{hearTests}
+use Rattle.mode.specs.Request.{askTests}
+use Rattle.mode.specs.Recovery.{tickTests}
+use Rattle.mode.specs.declared.Modes.{Modes}
+use Rattle.line.specs.Fit.{settingsFit}
+use Rattle.line.specs.declared.Line.{Line}
+use Rattle.line.specs.declared.Settings.{Settings}
+use Rattle.relay.specs.RelayTests.{relayChannelTests}
+use Rattle.relay.specs.Take.{takeCallTests}
+use Rattle.relay.specs.HandOut.{handCallTests}
+use Rattle.writing.specs.Write.{emptyTests}
+use Rattle.writing.specs.Send.{sendTests}
+use Rattle.arriving.specs.Arrive.{arriveTests}
+use Rattle.book.specs.Book.{lineOf, bookFits, taken}
+use Rattle.book.specs.declared.Book.{Book}
+use Rattle.calls.specs.Call.{Call}
+use Rattle.calls.specs.Call as call
+use Rattle.calls.specs.Order.{packetLine, isSomebody, lineAt}
+
+-- the first tests of the calls
+abbrev pub fitBook : Book → Test
+fitBook b = must (bookFits b) BOOK
+
+abbrev pub roomy : ℕ → Test
+roomy store = must (leb 42240 store) ROOM
+
+abbrev pub lineNumber : ℕ → Test
+lineNumber i = must (leb i 3) RANGE
+
+abbrev pub isOpen : Line → Test
+isOpen l = must (l .opened) NOLINE
+
+-- opening, behind them
+unfoldable pub openTests : Book → ℕ → Settings → List Test
+openTests b i s = must (not (lineOf b i .opened)) TAKEN ∷ must (settingsFit (s .identifier) (s .kind)) RANGE ∷ must (not (taken b (s .identifier))) TAKEN ∷ []
+
+-- closing
+unfoldable pub closeTests : Line → ℕ → List Test
+closeTests l space = isOpen l ∷ must (leb 12 space) ROOM ∷ []
+
+-- the mode calls
+abbrev pub actTests : Modes → Act → List Test
+actTests m (act.hear mode time) = hearTests m mode time
+actTests m (act.ask mode time) = askTests m mode time
+actTests m (act.tick time) = tickTests m time
+
+unfoldable pub modeTests : Line → Act → List Test
+modeTests l a = isOpen l ∷ actTests (l .modes) a
+
+-- an arrival: the packet's address, and then the line that it is for
+unfoldable pub addressTests : Book → List ℕ → List Test
+addressTests b s = headTests s ++ (must (isSomebody (packetLine b s)) NOLINE ∷ [])
+
+unfoldable pub arrivalTests : Book → List ℕ → List Test
+arrivalTests b s = addressTests b s ++ arriveTests (lineOf b (lineAt (packetLine b s))) s
+
+-- every call's tests, put together
+unfoldable pub tests : Call → Book → ℕ → ℕ → List Test
+tests (call.opening i s time) b store space = fitBook b ∷ lineNumber i ∷ openTests b i s
+tests (call.closing i) b store space = fitBook b ∷ lineNumber i ∷ closeTests (lineOf b i) space
+tests (call.mode i a) b store space = fitBook b ∷ lineNumber i ∷ modeTests (lineOf b i) a
+tests (call.taking i channel message) b store space = fitBook b ∷ roomy store ∷ lineNumber i ∷ takeCallTests (lineOf b i) channel (length message)
+tests (call.sending i channel rank) b store space = fitBook b ∷ roomy store ∷ lineNumber i ∷ sendTests (lineOf b i) channel rank space
+tests (call.empty i channel) b store space = fitBook b ∷ lineNumber i ∷ emptyTests (lineOf b i) channel space
+tests (call.arrival s) b store space = fitBook b ∷ roomy store ∷ arrivalTests b s
+tests (call.handOut i channel) b store space = fitBook b ∷ roomy store ∷ lineNumber i ∷ handCallTests (lineOf b i) channel space
+tests (call.report i channel) b store space = fitBook b ∷ lineNumber i ∷ relayChannelTests (lineOf b i) channel
