@@ -15,11 +15,11 @@ use Rattle.line.specs.declared.Line.{Line}
 use Rattle.relay.specs.RelayTests.{inRelay}
 use Rattle.arriving.specs.Effect.{heardLine, ackedAll, storedLine, storedStore}
 
--- "Arrival: .. TYPE, MODE, SHORT for the list, CHANNEL, SIZE", once the line that has the identifier is found and is open
+-- "Arrival: .. TYPE, MODE, SHORT for the list, CHANNEL, SIZE" (RULES 14.2), once the open line that has the identifier is found
 unfoldable pub arriveTests : Line → List ℕ → List Test
 arriveTests l s = must (eqb (headAt s .kind) (l .kind)) TYPE ∷ must (inRelay l) MODE ∷ (listTests s ++ (must (payloadFits s largest) SIZE ∷ []))
 
--- "base, acknowledgements as listed"
+-- "base, acknowledgements as listed" (RULES 4.2)
 unfoldable pub newsLine : Line → List ℕ → Line
 newsLine l s = ackedAll (heardLine l (headAt s .channel) (headAt s .base)) (ackList (acksAt s))
 
@@ -27,13 +27,14 @@ newsLine l s = ackedAll (heardLine l (headAt s .channel) (headAt s .base)) (ackL
 abbrev pub carries : List ℕ → Bool
 carries s = ltb 0 (length (payloadOf s))
 
--- "An arriving packet takes effect in this order: base, acknowledgements as listed, payload"
+-- "An arriving packet takes effect in this order: base, acknowledgements as listed, payload" (RULES 4.2)
 unfoldable pub arrivedLine : Line → List ℕ → Line
 arrivedLine l s =
     let m = newsLine l s in
     pick (carries s) (storedLine m (headAt s .channel) (headAt s .number) (length (payloadOf s))) m
 
--- base and acknowledgements leave the store, and what the receiving sides say of it, as they were
+-- the store then, of which only a payload changes anything (RULES 6.6): base and acknowledgements change neither the store nor what the
+-- receiving sides say of it
 unfoldable pub arrivedStore : Line → ℕ → List ℕ → List ℕ → List ℕ
 arrivedStore l i s store =
     pick (carries s) (storedStore l i (headAt s .channel) (headAt s .number) (payloadOf s) store) store

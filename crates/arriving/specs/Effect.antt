@@ -29,40 +29,41 @@ pub record Relaying (l : Line) : Type 0 where
   pub opened : l .opened ≡ true
   pub inside : l .modes .local ≡ modem
 
--- "Base b against the last base heard h", on a channel that is reliable; channel 0 has none
+-- "Base b against the last base heard h" (RULES 4.3), on a channel that is reliable; channel 0 has none (RULES 2.5)
 unfoldable pub heardLine : Line → ℕ → ℕ → Line
 heardLine l channel base = pick (reliable channel) (withSending l channel (heardBase (windowOf channel) (sendingOf l channel) base)) l
 
--- "An acknowledged number k on its channel"
+-- "An acknowledged number k on its channel" (RULES 4.5)
 unfoldable pub ackedLine : Line → ℕ → Line
 ackedLine l word = withSending l (channelOf word) (ackedBy (sendingOf l (channelOf word)) (numberOf word))
 
--- "acknowledgements as listed"
+-- "acknowledgements as listed" (RULES 4.2)
 unfoldable pub ackedAll : Line → List ℕ → Line
 ackedAll l [] = l
 ackedAll l (word ∷ words) = ackedAll (ackedLine l word) words
 
--- "In all three cases the number enters the list of owed acknowledgements"
+-- "In all three cases the number enters the list of owed acknowledgements" (RULES 4.10)
 abbrev pub owingLine : Line → ℕ → ℕ → Line
 owingLine l channel number = withOwed l (entered (l .owed) (wordOf channel number))
 
--- "Payload number n against the next to hand out R"
+-- "Payload number n against the next to hand out R" (RULES 4.7)
 abbrev pub arrivalAt : Line → ℕ → ℕ → Arrival
 arrivalAt l channel number = arrivalOf (windowOf channel) (receivingOf l channel) number
 
--- the line with that message, of `size` octets, come
+-- the line once that message, of `size` octets, has come (RULES 4.7, RULES 4.10, RULES 4.12)
 unfoldable pub storedLine : Line → ℕ → ℕ → ℕ → Line
 storedLine l channel number size =
     withReceiving (owingLine l channel number) channel
     (arrivedAs (windowOf channel) (receivingOf l channel) (arrivalAt l channel number) size)
 
--- "the message is stored, unless that place is already filled, in which case the first stays"; an old one "is not stored"
+-- "the message is stored" (RULES 4.7), "unless that place is already filled, in which case the first stays" (RULES 4.8); an old one "is
+-- not stored" (RULES 4.9)
 abbrev pub putAs : ℕ → Receiving → Region → Arrival → List ℕ → List ℕ → List ℕ
 putAs w r g (Stored d) message store = sets store (slotAt g (arrivalPlace w r d)) message
 putAs w r g There message store = store
 putAs w r g Old message store = store
 
--- the store of line i then
+-- the store once that message has come for line i (RULES 6.6)
 unfoldable pub storedStore : Line → ℕ → ℕ → ℕ → List ℕ → List ℕ → List ℕ
 storedStore l i channel number message store =
     putAs (windowOf channel) (receivingOf l channel) (regionOf i way.Receiving channel) (arrivalAt l channel number) message store

@@ -1,5 +1,5 @@
-// What a base, an acknowledgement and a payload do to the line at which they arrive, and to its slots in the store: document 01,
-// 'Packets'. Each is a step of its own; which packet makes them, and in what order, is left to others.
+// What a base, an acknowledgement and a payload do to the line at which they arrive, and to its slots in the store:
+// RULES 4.3 to RULES 4.13. Each is a step of its own; which of them a packet makes, and in what order, is said in lib.rt.
 ghost use mathlib.Core.Path.{_≡_};
 ghost use mathlib.Core.Bool.{true};
 ghost use Prim.Native.Nat.{_≤_, _<_};

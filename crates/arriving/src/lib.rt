@@ -1,6 +1,6 @@
-// What an arriving packet asks of its line, and what it does to it and to its slots in the store: document 01, 'Packets' and the
-// paragraph 'Order'. A verdict is worked out first, and an effect is made only where it lets the packet pass. The packet's first
-// tests, the search for the line by its identifier, and books are left to others.
+// What an arriving packet asks of its line (RULES 14.2), and what it does to it and to its slots in the store (RULES 4.2). A verdict is
+// worked out first, and an effect is made only where it lets the packet pass. The packet's first tests are in `packet`, the search for
+// the line by its identifier is in `book`.
 ghost use mathlib.Core.Path.{_≡_};
 ghost use mathlib.Core.Bool.{true};
 ghost use Prim.Native.Nat.{_≤_, _<_};

@@ -1,4 +1,4 @@
--- A gateway's book: four lines, and the identifiers that rest. What BOOK (row 18) asks of it.
+-- A gateway's book: four lines (RULES 1.1), and the identifiers that rest. What BOOK asks of it (RULES 13.18).
 -- Assumes nothing.
 use Prim.Native.Nat.{ℕ, suc}
 use mathlib.Core.Bool.{Bool, true, _&&_}
@@ -15,7 +15,7 @@ use Rattle.book.specs.declared.Book.{Book}
 use Rattle.book.specs.declared.Owner.{Owner}
 use Rattle.book.specs.declared.Owner.the-variants.{At, Nobody}
 
--- "as in a fresh book": four closed lines, and nothing rests
+-- "as in a fresh book": four closed lines, and nothing rests (RULES 7.7)
 abbrev pub freshBook : Book
 freshBook = record { lines = replicate 4 closedLine; resting = replicate 16 0; rested = 0 }
 
@@ -23,7 +23,7 @@ freshBook = record { lines = replicate 4 closedLine; resting = replicate 16 0; r
 abbrev pub lineOf : Book → ℕ → Line
 lineOf b i = getD (b .lines) i closedLine
 
--- the book with line i anew: every call on a line leaves this
+-- the book with another record of line i, and all else as it was
 abbrev pub withLine : Book → ℕ → Line → Book
 withLine b i l = record { lines = set (b .lines) i l; resting = b .resting; rested = b .rested }
 
@@ -32,11 +32,11 @@ unfoldable pub openIn : List Line → List ℕ
 openIn [] = []
 openIn (l ∷ ls) = pick (l .opened) (l .identifier ∷ openIn ls) (openIn ls)
 
--- those that rest, oldest first; what stands behind them is of no account
+-- those that rest, oldest first (RULES 7.6); what stands after them in the array is not read (RULES 15.26)
 abbrev pub restingOf : Book → List ℕ
 restingOf b = take (b .rested) (b .resting)
 
--- "among open and resting"
+-- the identifiers "among open and resting" (RULES 15.25)
 abbrev pub identifiersOf : Book → List ℕ
 identifiersOf b = openIn (b .lines) ++ restingOf b
 
@@ -44,11 +44,12 @@ unfoldable pub linesFit : List Line → Bool
 linesFit [] = true
 linesFit (l ∷ ls) = lineFits l && linesFit ls
 
--- what BOOK asks: of each line; of the last 16 closed; and "one identifier twice among open and resting"
+-- what BOOK asks: of each line; that at most 16 rest (RULES 15.23), each 0 to 127 (RULES 15.24); and not "one identifier twice among open
+-- and resting" (RULES 15.25)
 unfoldable pub bookFits : Book → Bool
 bookFits b = allHold (linesFit (b .lines) ∷ leb (b .rested) 16 ∷ allSpan (restingOf b) ∷ noTwice (identifiersOf b) ∷ [])
 
--- the open line that has the identifier: the first from the front, where k lines stand before these
+-- the open line that has the identifier (RULES 4.1): the first from the front, where k lines stand before these
 unfoldable pub ownerFrom : ℕ → List Line → ℕ → Owner
 ownerFrom k [] identifier = Nobody
 ownerFrom k (l ∷ ls) identifier = pick (l .opened && eqb (l .identifier) identifier) (At k) (ownerFrom (suc k) ls identifier)
@@ -56,6 +57,6 @@ ownerFrom k (l ∷ ls) identifier = pick (l .opened && eqb (l .identifier) ident
 abbrev pub ownerOf : Book → ℕ → Owner
 ownerOf b identifier = ownerFrom 0 (b .lines) identifier
 
--- "An identifier open on another line is taken. So is one among the last 16 closed."
+-- "An identifier open on another line is taken. So is one among the last 16 closed." (RULES 7.2)
 abbrev pub taken : Book → ℕ → Bool
 taken b identifier = member identifier (identifiersOf b)

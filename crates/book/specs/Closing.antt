@@ -1,4 +1,4 @@
--- An identifier goes to rest when its line is closed.
+-- An identifier goes to rest when its line is closed (RULES 7.6).
 -- Assumes nothing.
 use Prim.Native.Nat.{ℕ}
 use lib.ListN.{length, set}
@@ -7,7 +7,7 @@ use Rattle.line.specs.Line.{closedLine}
 use Rattle.book.specs.declared.Book.{Book}
 use Rattle.book.specs.Book.{restingOf, lineOf}
 
--- "A closed line's record is as in a fresh book", and its identifier rests
+-- "A closed line's record is as in a fresh book" (RULES 7.5), and its identifier rests (RULES 7.6)
 unfoldable pub closedAt : Book → ℕ → Book
 closedAt b i =
     let l = rests (restingOf b) (lineOf b i .identifier) in

@@ -1,5 +1,6 @@
-// A gateway's book, by value: four lines, and the identifiers of the last sixteen that were closed. Here is what BOOK asks of
-// it, how a packet's line is found, and what a line's closing leaves. What the calls do to a line is left to others.
+// A gateway's book, by value: four lines (RULES 1.1), and the identifiers of the last sixteen that were closed (RULES 7.6). Here is what
+// BOOK asks of it (RULES 13.18), how a packet's line is found (RULES 4.1), and what a line's closing leaves (RULES 7.5). What the other
+// calls do to a line is in `line`, `relay`, `writing` and `arriving`.
 ghost use mathlib.Core.Path.{_≡_};
 ghost use mathlib.Core.Bool.{true};
 ghost use Prim.Native.Nat.{_≤_, _<_};
@@ -12,7 +13,7 @@ mod resting; // resting.rt: the identifiers that rest
 
 pub struct Book {
     pub lines: [Line; 4],
-    // The identifiers that rest, oldest first, and behind them what is of no account.
+    // The identifiers that rest, oldest first; what stands after them is not read.
     pub resting: [u8; 16],
     // How many rest. At most 16.
     pub rested: u8,

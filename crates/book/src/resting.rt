@@ -1,5 +1,6 @@
-// The identifiers that rest: the last sixteen closed, as an array by value whose first n entries count, oldest first. Here is how one
-// is found among them, how one more goes to rest, and what BOOK asks of them. Which lines are open is left to the book.
+// The identifiers that rest: the last sixteen closed (RULES 7.6), as an array by value whose first n entries count, oldest first. Here is
+// how one is found among them, how one more goes to rest, and what BOOK asks of them (RULES 15.23, RULES 15.24, RULES 15.25). Which lines
+// are open is said in lib.rt.
 ghost use mathlib.Core.Path.{_≡_};
 ghost use mathlib.Core.Bool.{true, _&&_};
 ghost use Prim.Native.Nat.{_≤_};

@@ -63,7 +63,7 @@ fn ready() -> Book {
     opened(three, 3)
 }
 
-// Counts one more where a call is refused right behind BOOK, because there is no line 9. Makes no call where none is asked for.
+// Counts one more where a call is refused right after BOOK, because there is no line 9. Makes no call where none is asked for.
 fn refused(book: Book, asked: bool, count: u64) -> u64 {
     if !asked {
         return count;
@@ -260,7 +260,7 @@ fn carried(
     work
 }
 
-// How many of that many calls are refused right behind BOOK.
+// How many of that many calls are refused right after BOOK.
 fn refusals(book: Book, count: u64) -> u64 {
     let mut n = 0;
     let mut i = 0;

@@ -10,11 +10,11 @@ use Rattle.ground.specs.Every.{every}
 use Rattle.channel.specs.Distance.{placeOf}
 use Rattle.places.specs.Places.{bitOf}
 
--- "A message has 1 to 132 octets"; z is the largest
+-- "A message has 1 to 132 octets" (RULES 3.4); z stands for 132
 abbrev pub sizeFits : ℕ → ℕ → Bool
 sizeFits z size = ltb 0 size && leb size z
 
--- the size of the message that is i past the one at place first
+-- the size of the message that is i past the one at place `origin`
 abbrev pub sizeOf : ℕ → List ℕ → ℕ → ℕ → ℕ
 sizeOf w sizes origin i = getD sizes (placeOf origin i w) 0
 
@@ -22,6 +22,6 @@ sizeOf w sizes origin i = getD sizes (placeOf origin i w) 0
 abbrev pub sizeAt : ℕ → ℕ → List ℕ → ℕ → ℕ → ℕ → Bool
 sizeAt w z sizes m origin i = pick (bitOf m i) (sizeFits z (sizeOf w sizes origin i)) true
 
--- "or either of 0 or over 132 octets": no message of the set is
+-- no message of the set is "of 0 or over 132 octets" (RULES 15.15)
 unfoldable pub sizesFit : ℕ → ℕ → List ℕ → ℕ → ℕ → Bool
 sizesFit w z sizes m origin = every w (sizeAt w z sizes m origin)

@@ -1,5 +1,6 @@
-// What the two sides of a reliable channel share (document 01, 'Packets'): its windows, how far a number lies past another, where
-// a message lies, and which sizes fit. The sides themselves, octets, lines and packets are left to others.
+// What the two sides of a reliable channel share: its windows (RULES 3.2), how far a number lies past another (RULES 4.3, RULES 4.7),
+// where a message lies (RULES 6.5), and which sizes fit (RULES 3.4). The sides are `sending` and `receiving`; octets are the matter of
+// `store`, lines of `line`, packets of `packet`.
 ghost use mathlib.Core.Path.{_≡_};
 ghost use Prim.Native.Nat.{_+_, _^_, _<_};
 ghost use Rattle.channel.specs.Channel.{channelOf};
@@ -54,7 +55,7 @@ pub fn distance(n: u32, h: u32) -> u32
     (n % Channel::MODULUS + (Channel::MODULUS - h % Channel::MODULUS)) % Channel::MODULUS
 }
 
-// Where the message lies that is i past the one at place first: at first + i, less the window where that runs over.
+// The place of the message that is i past the one at place `origin`: origin + i, less the window where that is the window or more.
 pub fn place(origin: u32, i: u32, window: u32) -> u32
     requires { ⌜ origin + i < 2 ^ 32 ⌝ }
     ensures { λ r. ⌜ r ≡ placeOf origin i window ⌝ }

@@ -1,4 +1,4 @@
-// The sizes of the messages that lie in a window's places: what BOOK asks of them, on either side.
+// The sizes of the messages that lie in a window's places: what BOOK asks of them, on either side (RULES 15.15).
 ghost use mathlib.Core.Path.{_≡_};
 ghost use Prim.Native.Nat.{_^_, _≤_, _<_};
 ghost use Rattle.places.specs.Places.{maskOf, widest};
@@ -13,7 +13,7 @@ pub fn size_fits(size: u16, largest: u16) -> bool
     (0 < size) & (size <= largest)
 }
 
-// Has each message of the set, the oldest of which lies at place first, 1 to `largest` octets? Only places of the set are looked
+// Has each message of the set, the oldest of which lies at place `origin`, 1 to `largest` octets? Only places of the set are looked
 // at, and nothing past the highest.
 pub fn sizes_fit(sizes: [u16; 32], set: Places, origin: u32, window: u32, largest: u16) -> bool
     requires { ⌜ (origin < window) × (window ≤ widest) × (maskOf set < 2 ^ window) ⌝ }

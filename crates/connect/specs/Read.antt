@@ -1,4 +1,4 @@
--- What the octets of a CONNECT body say, field by field of Table 25, and when they are refused.
+-- What the octets of a CONNECT body say, field by field of Table 25 (RULES 11.1), and when they are refused.
 -- Assumes nothing.
 use Prim.Native.Nat.{ℕ, _+_, _*_}
 use mathlib.Core.Bool.{Bool}
@@ -16,18 +16,19 @@ use Rattle.connect.specs.declared.Connect.{Connect}
 use Rattle.connect.specs.declared.Reading.{Reading}
 use Rattle.connect.specs.declared.Reading.the-variants.{Says, Refused}
 
+-- bits 8 to 11 (RULES 11.1)
 abbrev pub compressionAt : List ℕ → ℕ
 compressionAt s = bitsAt s 8 4
 
 abbrev pub flagAt : List ℕ → ℕ → Bool
 flagAt s b = eqb (bitsAt s b 1) 1
 
--- the transmit direction (0), and the receive direction (1) behind it field by field; past the end all bits are 0, so that
--- "A value with no place in the body is read as 0"
+-- one direction's numbers: way 0 is transmit, and way 1 is receive, which follows it field by field (RULES 11.1, RULES 11.4, RULES 11.6).
+-- Past the end all bits are 0, so that "A value with no place in the body is read as 0" (RULES 11.10)
 unfoldable pub wayAt : List ℕ → ℕ → Way
 wayAt s way = record { rate = bitsAt s (16 + 16 * way) 16; dictionary = bitsAt s (64 + 16 * way) 16; string = bitsAt s (96 + 8 * way) 8; history = bitsAt s (112 + 16 * way) 16 }
 
--- bits 54 to 63 are not read
+-- bits 54 to 63 are not read (RULES 11.1, RULES 11.2)
 unfoldable pub connectAt : List ℕ → Connect
 connectAt s = record {
   modulation = bitsAt s 0 6;
@@ -44,7 +45,7 @@ connectAt s = record {
   chardyn = flagAt s 53;
 }
 
--- "CONNECT read: LENGTH below 8, RESERVED, LENGTH, RANGE"
+-- "CONNECT read: LENGTH below 8, RESERVED, LENGTH, RANGE" (RULES 14.13)
 abbrev pub readTests : List ℕ → List Test
 readTests s =
     must (leb 8 (length s)) LENGTH
@@ -53,7 +54,7 @@ readTests s =
     ∷ must (sizesFit (connectAt s)) RANGE
     ∷ []
 
--- what each case of a reading stands for: the eighteen values in the order of Table 25, or the refusal's number
+-- what each case of a reading stands for: the eighteen values in their order (RULES 11.11), or the refusal's number (RULES 17.3)
 abbrev pub answerOf : Reading → Answer
 answerOf (Says c) =
     accepted

@@ -16,7 +16,7 @@ pub enum Reply {
     Refused(Refusal),
     // The text of that number in the list of `text`.
     Text(u8),
-    // That text, and a number behind it.
+    // That text, and a number after it.
     Count(u8, u64),
     // `ok`, and so many of the octets that the call has written.
     Octets(usize),

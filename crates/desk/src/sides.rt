@@ -1,6 +1,5 @@
 // What `spoil` sets in the sides of a line's channel, by the part's place in the table of `spoil`: the counts S, h and R, and which
-// messages are held or stored. A message lies at the place of its number less the window as often as that goes, as the library has
-// it, which `first` says of h and of R.
+// messages are held or stored. Message n lies at place n mod the window, and `origin` is the place of message h or R (RULES 6.5).
 ghost use Prim.Native.Nat.{_≤_, _<_};
 use line::Line;
 use places::Places;
@@ -21,7 +20,7 @@ const MISSING: u8 = 19;
 
 const STORED: u8 = 20;
 
-// A number less the window of a channel as often as that goes: 32 of channel 1, or else 8.
+// A number modulo the window of a channel, which is 32 on channel 1, or else 8.
 fn less(channel: u8, n: u32) -> u32
     ensures { λ r. ⌜ r < 32 ⌝ }
 {

@@ -1,5 +1,5 @@
-// `spoil` sets one part of a book to a value, unchecked, so that each clause of BOOK can be tried. It is answered `ok`, or is no
-// call where the value cannot be said. It writes the whole store, whatever is lent.
+// `spoil` sets one part of a book to a value, unchecked, so that each clause of BOOK can be tried (RULES 15.2 to RULES 15.25). It is
+// answered `ok`, or is no call where the value cannot be said. It writes the whole store, whatever is lent.
 use crate::Seat;
 use crate::answer;
 use crate::answer::Reply;

@@ -12,7 +12,7 @@ pub record Field : Type 0 where
 abbrev pub of : ℕ → ℕ → Field
 of w v = record { width = w; value = v }
 
--- the n low octets of x, most significant first
+-- the n low octets of x, most significant first (RULES 1.7)
 abbrev pub octets : ℕ → ℕ → List ℕ
 octets zero x = []
 octets (suc n) x = x / 2 ^ (8 * n) % 2 ^ 8 ∷ octets n x
@@ -27,12 +27,12 @@ abbrev pub widths : List Field → ℕ
 widths [] = 0
 widths (f ∷ fs) = f .width + widths fs
 
--- the fields behind the number a, as one number
+-- the number a with the fields after it, as one number (RULES 1.7)
 abbrev pub join : ℕ → List Field → ℕ
 join a [] = a
 join a (f ∷ fs) = join (a * 2 ^ f .width + f .value) fs
 
--- the fields as octets; their widths make whole octets
+-- the fields as octets (RULES 1.7); their widths make whole octets
 abbrev pub packed : List Field → List ℕ
 packed fs = octets (widths fs / 8) (join 0 fs)
 

@@ -1,4 +1,4 @@
-// Octets and the numbers that lie in them, most significant first: read and written by masks and shifts.
+// Octets and the numbers that lie in them, most significant first (RULES 1.7): read and written by masks and shifts.
 // Every function here is total. An octet past the end reads as 0, and one that has no place is not written.
 ghost use mathlib.Core.Path.{_≡_};
 ghost use Prim.Native.Nat.{_*_};

@@ -7,7 +7,7 @@ use mathlib.Core.Logic.{_≢_}
 use mathlib.Core.List.{List, [], _∷_}
 use lib.ListN.{length, getD, take}
 
--- a message has at least one octet; the empty list stands for no message
+-- a message has at least one octet (RULES 3.4); the empty list stands for no message
 abbrev pub Message : Type 0
 Message = List ℕ
 
@@ -15,7 +15,7 @@ abbrev pub Full : Message → Type 0
 Full [] = ⊥
 Full (a ∷ x) = Unit {0}
 
--- "in which case the first stays"
+-- "in which case the first stays" (RULES 4.8)
 abbrev pub firstStays : Message → Message → Message
 firstStays [] x = x
 firstStays (a ∷ m) x = a ∷ m
@@ -37,33 +37,33 @@ Have r n = r .R ≤ n → Full (r .stored n)
 
 -- The moves, with full numbers.
 
--- message x is taken
+-- message x is taken (RULES 5.1)
 pub record TakeMove (s t : Sends) (x : Message) : Type 0 where
   pub count : t .S ≡ suc (s .S)
   pub base : t .h ≡ s .h
   pub new : t .held (s .S) ≡ x
   pub old : (n : ℕ) → s .h ≤ n → n < s .S → t .held n ≡ s .held n
 
--- base b is heard
+-- base b is heard (RULES 4.3, RULES 4.4)
 pub record BaseMove (s t : Sends) (b : ℕ) : Type 0 where
   pub count : t .S ≡ s .S
   pub base : t .h ≡ max (s .h) b
   pub old : (n : ℕ) → t .h ≤ n → n < s .S → t .held n ≡ s .held n
 
--- message k is acknowledged
+-- message k is acknowledged (RULES 4.5)
 pub record AckMove (s t : Sends) (k : ℕ) : Type 0 where
   pub count : t .S ≡ s .S
   pub base : t .h ≡ s .h
   pub gone : s .h ≤ k → k < s .S → t .held k ≡ []
   pub old : (n : ℕ) → s .h ≤ n → n < s .S → n ≢ k → t .held n ≡ s .held n
 
--- message n arrives with octets x
+-- message n arrives with octets x (RULES 4.7, RULES 4.8)
 pub record PayloadMove (r t : Receives) (n : ℕ) (x : Message) : Type 0 where
   pub next : t .R ≡ r .R
   pub here : r .R ≤ n → t .stored n ≡ firstStays (r .stored n) x
   pub old : (m : ℕ) → r .R ≤ m → m ≢ n → t .stored m ≡ r .stored m
 
--- message R is handed out
+-- message R is handed out (RULES 5.8)
 pub record HandOutMove (r t : Receives) : Type 0 where
   pub next : t .R ≡ suc (r .R)
   pub old : (m : ℕ) → r .R < m → t .stored m ≡ r .stored m

@@ -46,7 +46,7 @@ pub record PutAt (w : ℕ) (slot after : Slots) (p : ℕ) (x : Message) : Type 0
   pub here : take (length x) (after p) ≡ x
   pub others : (q : ℕ) → q < w → q ≢ p → after q ≡ slot q
 
--- what an arrival does to the slots: a message that is stored is put into its slot, any other leaves them
+-- what an arrival does to the slots: a message that is stored is put into its slot, any other leaves them (RULES 6.6)
 abbrev pub PutAs : ℕ → Receiving → Arrival → Slots → Slots → Message → Type 0
 PutAs w r (Stored d) slot after x = PutAt w slot after (arrivalPlace w r d) x
 PutAs w r There slot after x = after ≡ slot

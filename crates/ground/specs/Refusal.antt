@@ -9,7 +9,7 @@ use Rattle.ground.specs.declared.Refusal.the-variants.{SHORT, FORM, TYPE
 use Rattle.ground.specs.declared.Verdict.{Verdict}
 use Rattle.ground.specs.declared.Verdict.the-variants.{Pass, Refuse}
 
--- the table 'Refusal numbers'
+-- the number of each refusal (RULES 13.1 to RULES 13.18)
 abbrev pub numberOf : Refusal → ℕ
 numberOf SHORT = 1
 numberOf FORM = 2
@@ -38,7 +38,7 @@ pub record Test : Type 0 where
 abbrev pub must : Bool → Refusal → Test
 must t r = record { holds = t; why = r }
 
--- the first test that does not hold decides
+-- the first test that does not hold decides; the calls' lists of tests are in the orders of RULES 14.1 to RULES 14.21
 abbrev pub verdict : List Test → Verdict
 verdict [] = Pass
 verdict (t ∷ ts) = pick (t .holds) (verdict ts) (Refuse (t .why))

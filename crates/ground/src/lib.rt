@@ -1,8 +1,8 @@
-// What every crate stands on: the refusals of document 01 by name, and the two shapes of answer that carry them.
+// What every crate stands on: the refusals by name (RULES 13.1 to RULES 13.18), and the two shapes of answer that carry them.
 ghost use mathlib.Core.Path.{_≡_};
 ghost use Rattle.ground.specs.Refusal.{numberOf};
 
-// The eighteen refusals, named as in the table 'Refusal numbers'.
+// The eighteen refusals, in the order of their numbers.
 pub enum Refusal {
     SHORT,
     FORM,
@@ -24,7 +24,7 @@ pub enum Refusal {
     BOOK,
 }
 
-// What a run of tests in the paper's order comes to: all hold, or the refusal of the first that does not.
+// What a run of tests in a call's order comes to: all hold, or the refusal of the first that does not.
 pub enum Verdict {
     Pass,
     Refuse(Refusal),
@@ -36,7 +36,7 @@ pub enum WriteAnswer {
     Refused(Refusal),
 }
 
-// The number of a refusal, as the paper's table gives it.
+// The number of a refusal (RULES 13.1 to RULES 13.18).
 pub fn number(r: Refusal) -> u8
     ensures { λ n. ⌜ n ≡ numberOf r ⌝ }
 {

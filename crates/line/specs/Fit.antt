@@ -1,4 +1,4 @@
--- What BOOK (row 18) asks of one line. "BOOK skips" a closed one.
+-- What BOOK asks of one line (RULES 13.18). "BOOK skips" a closed one (RULES 15.1).
 -- Assumes nothing.
 use Prim.Native.Nat.{ℕ}
 use mathlib.Core.Bool.{Bool, true, _||_}
@@ -14,15 +14,15 @@ use Rattle.owed.specs.Owed.{owedFits}
 use Rattle.line.specs.declared.Line.{Line}
 use Rattle.places.specs.Places.{maskOf}
 
--- "A message has 1 to 132 octets"
+-- "A message has 1 to 132 octets" (RULES 3.4)
 abbrev pub largest : ℕ
 largest = 132
 
--- "identifier 0 to 127, payload type 96 to 127"
+-- "identifier 0 to 127, payload type 96 to 127" (RULES 7.1, RULES 15.3, RULES 15.4)
 abbrev pub settingsFit : ℕ → ℕ → Bool
 settingsFit identifier kind = allHold (leb identifier 127 ∷ leb 96 kind ∷ leb kind 127 ∷ [])
 
--- nothing is held, stored or owed
+-- nothing is held, stored or owed (RULES 15.22)
 abbrev pub idle : Line → Bool
 idle l =
     allHold
@@ -30,7 +30,8 @@ idle l =
     ∷ eqb (maskOf (l .receiving1 .stored)) 0 ∷ eqb (maskOf (l .receiving2 .stored)) 0
     ∷ eqb (l .owed .count) 0 ∷ [])
 
--- the clauses of an open line: its settings, its modes, its sides, what it owes, and "anything held, stored or owed outside m"
+-- the clauses of an open line (RULES 15.2 to RULES 15.22): its settings, its modes, its sides, what it owes, and not "anything held,
+-- stored or owed outside m"
 abbrev pub lineTests : Line → List Bool
 lineTests l =
     settingsFit (l .identifier) (l .kind)
@@ -43,5 +44,6 @@ lineTests l =
     ∷ (eqb (l .modes .local) modem || idle l)
     ∷ []
 
+-- of a closed line nothing is asked (RULES 15.1)
 unfoldable pub lineFits : Line → Bool
 lineFits l = pick (l .opened) (allHold (lineTests l)) true

@@ -14,7 +14,7 @@ use Rattle.owed.specs.declared.Owed.{Owed}
 use Rattle.line.specs.declared.Line.{Line}
 use Rattle.line.specs.declared.Settings.{Settings}
 
--- "A closed line's record is as in a fresh book"
+-- "A closed line's record is as in a fresh book" (RULES 7.5, RULES 7.7)
 abbrev pub closedLine : Line
 closedLine = record {
   opened = false;
@@ -28,7 +28,7 @@ closedLine = record {
   owed = freshOwed;
 }
 
--- "Opening names line, identifier .., payload type .., whether VBD and modem relay are offered, and the time"
+-- "Opening names line, identifier .., payload type .., whether VBD and modem relay are offered, and the time" (RULES 7.1, RULES 7.3)
 abbrev pub openedLine : Settings → ℕ → Line
 openedLine s time = record {
   opened = true;
@@ -49,7 +49,7 @@ sendingOf l channel = pick (eqb channel 1) (l .sending1) (l .sending2)
 abbrev pub receivingOf : Line → ℕ → Receiving
 receivingOf l channel = pick (eqb channel 1) (l .receiving1) (l .receiving2)
 
--- the line with all its sides anew
+-- the line with other sides
 abbrev pub withSides : Line → Sending → Sending → Receiving → Receiving → Line
 withSides l s t q r = record {
   opened = l .opened;
@@ -77,7 +77,7 @@ withOwed l o = record {
   owed = o;
 }
 
--- the line with one side anew
+-- the line with another side of one channel
 abbrev pub withSending : Line → ℕ → Sending → Line
 withSending l channel s = pick (eqb channel 1) (withSides l s (l .sending2) (l .receiving1) (l .receiving2)) (withSides l (l .sending1) s (l .receiving1) (l .receiving2))
 

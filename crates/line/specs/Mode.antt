@@ -1,4 +1,4 @@
--- What a change of mode does to a line: document 01, 'Media modes'.
+-- What a change of mode does to a line.
 -- Assumes nothing.
 use Rattle.sending.specs.Sending.{freshSending, emptiedSending}
 use Rattle.receiving.specs.Receiving.{freshReceiving, emptiedReceiving}
@@ -25,7 +25,8 @@ withModes l m s t q r o = record {
   owed = o;
 }
 
--- "Entering m starts both channels fresh. Leaving m, for any cause, ends relay for that opening and empties its stores, owed list included"
+-- "Entering m starts both channels fresh" (RULES 9.12). "Leaving m, for any cause, ends relay for that opening and empties its stores,
+-- owed list included" (RULES 9.13, RULES 9.14)
 unfoldable pub steppedTo : Line → Modes → Channels → Line
 steppedTo l m Stay = withModes l m (l .sending1) (l .sending2) (l .receiving1) (l .receiving2) (l .owed)
 steppedTo l m Fresh = withModes l m freshSending freshSending freshReceiving freshReceiving freshOwed

@@ -1,6 +1,6 @@
 // One line's record, by value: its settings, its modes, two sending and two receiving sides, and what it owes.
-// Here is what opening, closing and a change of mode make of it, and what BOOK asks of it. Relay calls, books, octets and
-// the order of refusals are left to others.
+// Here is what opening (RULES 7.3), closing (RULES 7.5) and a change of mode (RULES 9.12, RULES 9.14) make of it, and what BOOK asks of
+// it. Relay calls are in `relay`, `writing` and `arriving`, books in `book`, octets in `store`, the order of refusals in `calls`.
 ghost use mathlib.Core.Path.{_≡_};
 ghost use Rattle.line.specs.Line.{closedLine, openedLine, sendingOf, withSending, receivingOf, withReceiving};
 ghost use Rattle.line.specs.Fit.{settingsFit, idle, lineFits};

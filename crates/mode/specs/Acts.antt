@@ -20,7 +20,7 @@ pub data Act : Type 0 where
   ask : (mode : ℕ) (time : ℕ) → Act
   tick : (time : ℕ) → Act
 
--- what a mode call gives, in document 01's numbers
+-- what a mode call gives, its answer as number and values (RULES 17.3)
 pub record Outcome : Type 0 where
   pub said : Answer
   pub modes : Modes
@@ -51,7 +51,7 @@ timeOf (hear mode time) = time
 timeOf (ask mode time) = time
 timeOf (tick time) = time
 
--- the audio indications that a call calls for, each by its try
+-- the audio indications that a call calls for, each by its try (RULES 10.1, RULES 10.2)
 abbrev pub calledBy : TickAnswer → List ℕ
 calledBy Quiet = []
 calledBy (Audio n) = n ∷ []
@@ -68,7 +68,7 @@ unfoldable pub calledIn : Modes → List Act → List ℕ
 calledIn l [] = []
 calledIn l (act ∷ acts) = called l act ++ calledIn (after l act) acts
 
--- "While no a is heard": none of the calls is an indication of a
+-- "While no a is heard", which would end recovery (RULES 10.5): none of the calls is an indication of a
 abbrev pub NoAudio : Act → Type 0
 NoAudio (hear mode time) = mode ≡ audio → ⊥
 NoAudio (ask mode time) = Unit

@@ -8,22 +8,22 @@ use Rattle.mode.specs.declared.Modes.{Modes}
 use Rattle.mode.specs.Given.{audio, voiceband, modem, text}
 use Rattle.mode.specs.Moved.{over}
 
--- row 18 BOOK, of what it reads of the modes
+-- BOOK, as far as it reads the modes (RULES 13.18): what is quoted beside a test is what the test refuses
 abbrev pub fitTests : Modes → List Bool
 fitTests l =
-    -- "a mode .. or try outside this paper's spans"
+    -- "a mode .. or try outside this paper's spans" (RULES 15.5, RULES 15.6, RULES 15.7)
     leb audio (l .local)
     ∷ leb (l .local) modem
     ∷ leb (l .remote) text
     ∷ leb (l .tries) over
-    -- "S is a mode not offered"
+    -- "S is a mode not offered", where S is the local mode (RULES 15.19)
     ∷ (not (eqb (l .local) voiceband) || l .vbd)
     ∷ (not (eqb (l .local) modem) || l .relay)
-    -- "or not a in recovery or once ended"
+    -- "or not a in recovery or once ended" (RULES 15.20)
     ∷ (eqb (l .tries) 0 || eqb (l .local) audio)
-    -- "a difference .. timed after the line's last"
+    -- "a difference .. timed after the line's last" (RULES 15.21)
     ∷ (eqb (l .local) (l .remote) || leb (l .since) (l .last))
-    -- "or try timed after the line's last"
+    -- "or try timed after the line's last" (RULES 15.21)
     ∷ (eqb (l .tries) 0 || leb (l .tried) (l .last))
     ∷ []
 

@@ -1,4 +1,4 @@
--- V.150.1, C.5.3.1: when the source has an SSE with S sent, so that document 01's notice can be held against it. No call reads this.
+-- V.150.1, C.5.3.1: when the source has an SSE with S sent, so that the notice of RULES 9.8 can be held against it. No call reads this.
 -- Assumes nothing.
 use mathlib.Core.Bool.{Bool, _&&_, _||_, not}
 use lib.Dec.{eqb}

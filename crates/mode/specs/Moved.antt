@@ -11,7 +11,7 @@ use Rattle.mode.specs.declared.Channels.{Channels}
 use Rattle.mode.specs.declared.Channels.the-variants.{Stay, Fresh, Emptied}
 use Rattle.mode.specs.Given.{audio, modem}
 
--- "At opening both are a"; "opening .. set[s] the line's last time"
+-- "At opening both are a" (RULES 9.2); "opening .. set[s] the line's last time" (RULES 10.11)
 abbrev pub openedModes : Bool → Bool → ℕ → Modes
 openedModes vbd relay time = record {
   vbd = vbd;
@@ -25,7 +25,7 @@ openedModes vbd relay time = record {
   last = time;
 }
 
--- "A closed line's record is as in a fresh book": all numbers and flags 0, both modes a
+-- "A closed line's record is as in a fresh book": all numbers and flags 0, both modes a (RULES 7.7)
 abbrev pub closedModes : Modes
 closedModes = openedModes false false 0
 
@@ -36,19 +36,20 @@ enters s s' = not (eqb s modem) && eqb s' modem
 abbrev pub leaves : ℕ → ℕ → Bool
 leaves s s' = eqb s modem && not (eqb s' modem)
 
--- "Entering m starts both channels fresh. Leaving m, for any cause, .. empties its stores, owed list included"
+-- "Entering m starts both channels fresh. Leaving m, for any cause, .. empties its stores, owed list included" (RULES 9.12, RULES 9.14)
 unfoldable pub channelsFor : ℕ → ℕ → Channels
 channelsFor s s' = pick (enters s s') Fresh (pick (leaves s s') Emptied Stay)
 
--- "The difference is timed from the event that began it and goes on while they differ, even if either changes": when the
--- present difference began, once S is s and the remote mode r at a time; 0 where a difference has ended
+-- "The difference is timed from the event that began it and goes on while they differ, even if either changes" (RULES 10.8): when the
+-- present difference began, once the local mode is s and the remote mode r at a time; 0 where a difference has ended (RULES 10.9)
 unfoldable pub timed : Modes → ℕ → ℕ → ℕ → ℕ
 timed l s r time =
     pick (eqb (l .local) (l .remote))
     (pick (eqb s r) (l .since) time)
     (pick (eqb s r) 0 (l .since))
 
--- the record once S is s and the remote mode r at a time: "Leaving m, for any cause, ends relay for that opening"
+-- the record once the local mode is s and the remote mode r at a time: "Leaving m, for any cause, ends relay for that opening"
+-- (RULES 9.13)
 unfoldable pub moved : Modes → ℕ → ℕ → ℕ → Modes
 moved l s r time = record {
   vbd = l .vbd;
@@ -62,7 +63,7 @@ moved l s r time = record {
   last = time;
 }
 
--- the record at try n, the last try made at a time
+-- the record at try n, the last try made at a time (RULES 10.10)
 unfoldable pub trying : Modes → ℕ → ℕ → Modes
 trying l n time = record {
   vbd = l .vbd;
@@ -76,7 +77,7 @@ trying l n time = record {
   last = l .last;
 }
 
--- nothing changes but the line's last time
+-- nothing changes but the line's last time (RULES 10.11)
 unfoldable pub stayed : Modes → ℕ → Modes
 stayed l time = record {
   vbd = l .vbd;
@@ -90,17 +91,17 @@ stayed l time = record {
   last = time;
 }
 
--- recovery's count of tries: the last, and what stands for a line that recovery has ended
+-- recovery's count of tries: the last try, and the number that stands for a line that recovery has ended (RULES 10.6, RULES 15.7)
 abbrev pub lastTry : ℕ
 lastTry = 5
 
 abbrev pub over : ℕ
 over = 6
 
--- the line has ended by recovery
+-- the line has ended by recovery (RULES 10.6)
 abbrev pub ended : Modes → Bool
 ended l = ltb lastTry (l .tries)
 
--- CLOCK, "time below the line's last": the first test of every mode call
+-- CLOCK, "time below the line's last" (RULES 13.14): the first test of every mode call (RULES 14.21)
 abbrev pub inTime : Modes → ℕ → Test
 inTime l time = must (leb (l .last) time) CLOCK

@@ -1,4 +1,4 @@
--- A local request: its refusals in the order "CLOCK, RECOVERY, RANGE, MODE", its effect, and both together.
+-- A local request: its refusals in their order, its effect, and both together. NOLINE, which comes before them, is refused in `calls`.
 -- Assumes nothing.
 use Prim.Native.Nat.{ℕ}
 use mathlib.Core.Bool.{_&&_, not}
@@ -13,18 +13,20 @@ use Rattle.mode.specs.declared.AskStep.{AskStep}
 use Rattle.mode.specs.Given.{modem, offered}
 use Rattle.mode.specs.Moved.{channelsFor, moved, inTime}
 
+-- "CLOCK, RECOVERY, RANGE, MODE" (RULES 14.11, RULES 14.21)
 abbrev pub askTests : Modes → ℕ → ℕ → List Test
 askTests l k time =
     inTime l time
-    -- "request while recovering; request or indication once ended"
+    -- "request while recovering; request or indication once ended" (RULES 13.15)
     ∷ must (eqb (l .tries) 0) RECOVERY
-    -- "a request for a mode not offered"
+    -- "a request for a mode not offered" (RULES 13.13)
     ∷ must (offered l k) RANGE
-    -- "request for m once m was left"
+    -- "request for m once m was left" (RULES 13.5)
     ∷ must (not (eqb k modem && l .left)) MODE
     ∷ []
 
--- the call: the first refusal that holds, with nothing changed; else S is the mode named
+-- the call: the first refusal that holds, with nothing changed (RULES 1.6); else the local mode is the one named (RULES 9.9), and the
+-- remote mode stays (RULES 9.11)
 unfoldable pub askStep : Modes → ℕ → ℕ → AskStep
 askStep l k time =
     settle (verdict (askTests l k time))

@@ -1,4 +1,4 @@
--- Document 01's number and values for each case of an answer: number 0 where the call is accepted, else the refusal's.
+-- The number and the values of each case of an answer (RULES 17.3): number 0 where the call is accepted, else the refusal's.
 -- Assumes nothing.
 use Prim.Native.Nat.{ℕ}
 use mathlib.Core.List.{List, [], _∷_}
@@ -13,17 +13,17 @@ use Rattle.mode.specs.declared.AskAnswer.the-variants as asked
 use Rattle.mode.specs.declared.TickAnswer.{TickAnswer}
 use Rattle.mode.specs.declared.TickAnswer.the-variants as ticked
 
--- S, and 1 where a P' notice is to be sent
+-- the local mode, and 1 where a P' notice is to be sent (RULES 9.8)
 abbrev pub hearSays : HearAnswer → Answer
 hearSays (heard.Mode s n) = accepted (s ∷ bit n ∷ [])
 hearSays (heard.Refused r) = refused r
 
--- S
+-- the local mode (RULES 9.9)
 abbrev pub askSays : AskAnswer → Answer
 askSays (asked.Mode s) = accepted (s ∷ [])
 askSays (asked.Refused r) = refused r
 
--- 0 nothing due, 1 to 5 the try of the audio indication due, 6 ended
+-- 0 nothing due, 1 to 5 the try of the audio indication due, 6 ended (RULES 10.1, RULES 10.3, RULES 10.7)
 abbrev pub tickSays : TickAnswer → Answer
 tickSays ticked.Quiet = accepted (0 ∷ [])
 tickSays (ticked.Audio n) = accepted (n ∷ [])

@@ -1,5 +1,5 @@
 -- V.150.1, Table C.2, 'Permitted media states', as the source has it: a rule for each indication, with the local modes it permits.
--- Document 01's choices (`Given`) are not used here. Assumes nothing.
+-- The choices of RULES 9.4 to RULES 9.7 (`Given`) are not used here. Assumes nothing.
 use Prim.Native.Nat.{ℕ}
 use mathlib.Core.Bool.{Bool, false, _&&_, _||_}
 use mathlib.Core.List.{List, [], _∷_}

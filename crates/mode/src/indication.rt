@@ -1,5 +1,5 @@
-// An indication heard (document 01, 'Media modes'; V.150.1, C.5.3.2): its refusals, what it gives, and the call.
-// What it means is defined in `mode`, with the laws of it. What is sent to the other end is the caller's.
+// An indication heard (RULES 9.3 to RULES 9.8, RULES 10.4, RULES 10.5; V.150.1, C.5.3.2): its refusals, what it gives, and the call.
+// What it means is defined in specs/Given.antt and specs/Indication.antt. What is sent to the other end is the caller's task.
 ghost use mathlib.Core.Path.{_≡_};
 ghost use mathlib.Core.List.{[], _∷_};
 ghost use Rattle.ground.specs.Refusal.{verdict};

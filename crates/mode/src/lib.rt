@@ -1,7 +1,7 @@
 // The media modes of one line, by value: the record, the steps that it is changed by, and what a mode call gives.
-// It follows document 01, 'Media modes' (V.150.1, C.5.3 and C.5.4.1). What an indication, a request and a tick make of the record
-// is defined here, with the laws of it; the calls stand in `indication`, `request` and `recovery`. Each gives its answer, the next
-// modes, and what is to become of the line's channels. What a channel, an octet, a line or a book is, and NOLINE, are left to others.
+// It follows RULES 9.1 to RULES 9.14 and RULES 10.1 to RULES 10.12 (V.150.1, C.5.3 and C.5.4.1). What an indication, a request and a
+// tick make of the record is defined in specs/; the calls stand in indication.rt, request.rt and recovery.rt. Each gives its answer,
+// the next modes, and what is to become of the line's channels, which `line` carries out. NOLINE is refused in `calls`.
 ghost use mathlib.Core.Path.{_≡_};
 ghost use Rattle.mode.specs.Moved.{openedModes, closedModes, enters, leaves, channelsFor, timed, moved, trying, stayed, ended};
 ghost use Rattle.mode.specs.Fit.{modesFit};

@@ -1,5 +1,5 @@
-// A tick, and recovery, which only ticks begin and end by the clock (document 01, 'Media modes'; V.150.1, C.5.4.1).
-// What a tick means is defined in `mode`, with the laws of it. The clock is the caller's.
+// A tick, and recovery: only a tick begins it, and a tick ends the line after the last try (RULES 10.1, RULES 10.2, RULES 10.6; V.150.1,
+// C.5.4.1). What a tick means is defined in specs/Recovery.antt. The clock is the caller's.
 ghost use mathlib.Core.Path.{_≡_};
 ghost use mathlib.Core.List.{[], _∷_};
 ghost use Prim.Native.Nat.{_-_};

@@ -1,5 +1,5 @@
-// A local request (document 01, 'Media modes'): its refusals and the call. What it means is defined in `mode`, with the laws of it.
-// Why a line's own side asks is the caller's.
+// A local request (RULES 9.9, RULES 9.10, RULES 9.11): its refusals and the call. What it means is defined in specs/Request.antt.
+// When a mode is requested, and why, is for the caller to decide.
 ghost use mathlib.Core.Path.{_≡_};
 ghost use mathlib.Core.List.{[], _∷_};
 ghost use Rattle.ground.specs.Refusal.{verdict};

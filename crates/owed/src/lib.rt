@@ -1,5 +1,5 @@
-// A line's owed acknowledgements (document 01, 'Packets'), by value: one list for both channels, in order of entry.
-// An entry is a word of 16 bits, channel (2) and number (14), as a packet carries it. Writing them is left to others.
+// A line's owed acknowledgements, by value: one list for both channels (RULES 4.11), in order of entry (RULES 5.7).
+// An entry is a word of 16 bits, channel (2) and number (14), as a packet carries it. `writing` puts them into packets.
 ghost use mathlib.Core.Path.{_≡_};
 ghost use Prim.Native.Nat.{_≤_, _<_};
 ghost use lib.ListN.{getD, take};
@@ -8,7 +8,7 @@ ghost use Rattle.owed.specs.Owed.{freshOwed, owedOf, member, entered, fi
 use packet::Acks;
 
 pub struct Owed {
-    // The entries there are, oldest first, and behind them what is of no account.
+    // The entries there are, oldest first; what stands after them is not read.
     pub numbers: [u16; 64],
     // How many entries there are. At most 64.
     pub count: u8,

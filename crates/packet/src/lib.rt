@@ -1,5 +1,5 @@
-// A relay packet: document 01, section 'Packets', after V.150.1 Annex B. What its octets say; `pack` writes one.
-// Lines, windows and modes are not known here: NOLINE, TYPE and MODE stand between reading the head and reading the list.
+// A relay packet, after V.150.1 Annex B (RULES 2.1 to RULES 2.8): what its octets say. One is written in write.rt.
+// Lines, windows and modes are not known here: NOLINE, TYPE and MODE stand between reading the head and reading the list (RULES 14.2).
 ghost use mathlib.Core.Path.{_≡_};
 ghost use Prim.Native.Nat.{_<_};
 ghost use Rattle.ground.specs.Refusal.{verdict};
@@ -42,13 +42,13 @@ pub enum HeadReading {
     Refused(Refusal),
 }
 
-// What the list behind them says, or why it says nothing.
+// What the list after them says, or why it says nothing.
 pub enum AcksReading {
     Says(Acks),
     Refused(Refusal),
 }
 
-// Where the payload begins: behind six octets and two for each acknowledgement.
+// Where the payload begins: after six octets and two for each acknowledgement.
 pub fn header_length(s: &[u8]) -> usize
     ensures { λ r. ⌜ r ≡ headerLength (now (s .entry)) ⌝ }
 {
@@ -184,7 +184,7 @@ fn list_verdict(s: &[u8]) -> Verdict
     }
 }
 
-// The acknowledgements behind the six octets: SHORT, CHANNEL.
+// The acknowledgements after the six octets: SHORT, CHANNEL.
 pub fn read_acks(s: &[u8]) -> AcksReading
     ensures { λ r. ⌜ Gives acksSays (listTests (now (s .entry))) AcksReading.Refused (AcksReading.Says (acksAt (now (s .entry)))) r ⌝ }
 {

@@ -16,19 +16,20 @@ use Rattle.receiving.specs.declared.Receiving.{Receiving}
 use Rattle.receiving.specs.declared.Arrival.{Arrival}
 use Rattle.receiving.specs.declared.Arrival.the-variants.{Stored, There, Old}
 
+-- R is 0 and nothing is stored (RULES 9.12); message 0 has place 0 (RULES 6.5)
 abbrev pub freshReceiving : Receiving
 freshReceiving = record { next = 0; stored = setOf 0; origin = 0; sizes = replicate 32 0 }
 
--- "Payload number n against the next to hand out R": let d = (n - R) mod 16,384; below the window it is stored, unless that place
--- is already filled; if not, it is old
+-- "Payload number n against the next to hand out R": let d = (n - R) mod 16,384; below the window it is stored (RULES 4.7), unless its
+-- place is already filled (RULES 4.8); at or past the window it is old (RULES 4.9)
 unfoldable pub arrivalOf : ℕ → Receiving → ℕ → Arrival
 arrivalOf w r n = let d = dist n (r .next) in pick (ltb d w) (pick (bitOf (maskOf (r .stored)) d) There (Stored d)) Old
 
--- the place of message R + d
+-- the place of message R + d (RULES 6.5)
 abbrev pub arrivalPlace : ℕ → Receiving → ℕ → ℕ
 arrivalPlace w r d = placeOf (r .origin) d w
 
--- message R + d is stored, of `size` octets
+-- message R + d is stored, of `size` octets (RULES 4.7)
 unfoldable pub storedAt : ℕ → Receiving → ℕ → ℕ → Receiving
 storedAt w r d size = record {
   next = r .next;
@@ -37,13 +38,13 @@ storedAt w r d size = record {
   sizes = set (r .sizes) (arrivalPlace w r d) size;
 }
 
--- what number n with `size` octets leaves behind
+-- the side once a number has arrived with `size` octets (RULES 4.7, RULES 4.8, RULES 4.9)
 abbrev pub arrivedAs : ℕ → Receiving → Arrival → ℕ → Receiving
 arrivedAs w r (Stored d) size = storedAt w r d size
 arrivedAs w r There size = r
 arrivedAs w r Old size = r
 
--- a channel "hands out at most as many"; "message R not stored": SPENT, NOTHING
+-- a channel "hands out at most as many" (RULES 5.12); "message R not stored" (RULES 13.10): SPENT, NOTHING (RULES 14.5)
 abbrev pub handTests : Receiving → List Test
 handTests r = must (ltb (r .next) cap) SPENT ∷ must (bitOf (maskOf (r .stored)) 0) NOTHING ∷ []
 
@@ -51,7 +52,7 @@ handTests r = must (ltb (r .next) cap) SPENT ∷ must (bitOf (maskOf (r .stored)
 abbrev pub nextSize : Receiving → ℕ
 nextSize r = getD (r .sizes) (r .origin) 0
 
--- "Handing out gives message R and moves R on"
+-- "Handing out gives message R and moves R on" (RULES 5.8)
 unfoldable pub handedOut : ℕ → Receiving → Receiving
 handedOut w r = record {
   next = r .next + 1;
@@ -60,12 +61,12 @@ handedOut w r = record {
   sizes = r .sizes;
 }
 
--- leaving modem relay "empties its stores": nothing is stored any more; "S, h and R stay"
+-- leaving modem relay "empties its stores": nothing is stored any more; "S, h and R stay" (RULES 9.14)
 unfoldable pub emptiedReceiving : Receiving → Receiving
 emptiedReceiving r = record { next = r .next; stored = setOf 0; origin = r .origin; sizes = r .sizes }
 
--- What BOOK asks: a count of at most 16,777,215; "a stored one outside R to R + window - 1 .. of 0 or over 132 octets"; a first
--- place at or past the window is outside its span.
+-- What BOOK asks: R is at most 16,777,215 (RULES 15.9); the place of message R is below the window (RULES 15.12); not "a stored one
+-- outside R to R + window - 1" (RULES 15.14), "of 0 or over 132 octets" (RULES 15.15)
 abbrev pub receivingTests : ℕ → ℕ → Receiving → List Bool
 receivingTests w z r =
     leb (r .next) cap

@@ -1,5 +1,5 @@
-// The receiving side of a channel, by value (document 01, 'Packets'): the next message to hand out, what is stored and where it
-// lies. The window and the largest message are parameters.
+// The receiving side of a channel, by value: the next message to hand out (RULES 5.8), what is stored (RULES 4.7) and where it lies
+// (RULES 6.5). The window and the largest message are parameters.
 // It says what becomes of a number that arrives, and when handing out is refused as SPENT or NOTHING.
 ghost use mathlib.Core.Path.{_≡_};
 ghost use Prim.Native.Nat.{_≤_, _<_};
@@ -99,7 +99,7 @@ impl Receiving {
         Verdict::Refuse(Refusal::NOTHING)
     }
 
-    // The size of message R, which lies at place first.
+    // The size of message R, which lies at place `origin`.
     pub fn next_size(self) -> u16
         requires { ⌜ self .origin < widest ⌝ }
         ensures { λ r. ⌜ r ≡ nextSize self ⌝ }

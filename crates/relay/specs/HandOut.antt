@@ -13,14 +13,14 @@ use Rattle.store.specs.Store.{regionOf, octetsIn}
 use Rattle.store.specs.declared.Way.the-variants.{Receiving}
 use Rattle.relay.specs.RelayTests.{relayChannelTests}
 
--- "hand-out: NOLINE, MODE, CHANNEL, SPENT .., NOTHING, ROOM"; space is the output's length
+-- "hand-out: NOLINE, MODE, CHANNEL, SPENT .., NOTHING, ROOM" (RULES 14.5); space is the output's length
 unfoldable pub handCallTests : Line → ℕ → ℕ → List Test
 handCallTests l channel space = relayChannelTests l channel ++ (handTests (receivingOf l channel) ++ (must (leb (nextSize (receivingOf l channel)) space) ROOM ∷ []))
 
--- "Handing out gives message R": its octets
+-- "Handing out gives message R": its octets (RULES 5.8, RULES 5.9)
 abbrev pub handedOctets : Line → ℕ → ℕ → List ℕ → List ℕ
 handedOctets l i channel store = octetsIn store (regionOf i Receiving channel) (receivingOf l channel .origin) (nextSize (receivingOf l channel))
 
--- "and moves R on"
+-- "and moves R on" (RULES 5.8)
 abbrev pub handedLine : Line → ℕ → Line
 handedLine l channel = withReceiving l channel (handedOut (windowOf channel) (receivingOf l channel))

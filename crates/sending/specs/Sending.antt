@@ -19,6 +19,7 @@ use Rattle.sending.specs.declared.Acknowledged.{Acknowledged}
 use Rattle.sending.specs.declared.Ranked.{Ranked}
 use Rattle.sending.specs.declared.Ranked.the-variants.{Is, Nothing}
 
+-- S and h are 0 and nothing is held (RULES 9.12); message 0 has place 0 (RULES 6.5)
 abbrev pub freshSending : Sending
 freshSending = record { taken = 0; base = 0; unacked = setOf 0; origin = 0; sizes = replicate 32 0 }
 
@@ -26,15 +27,15 @@ freshSending = record { taken = 0; base = 0; unacked = setOf 0; origin = 0; size
 abbrev pub underWay : Sending → ℕ
 underWay s = s .taken - s .base
 
--- "A message is taken only if S - h is below the window", and at most 16,777,215 are: SPENT, FULL
+-- "A message is taken only if S - h is below the window" (RULES 5.1), and at most 16,777,215 are (RULES 5.12): SPENT, FULL (RULES 14.3)
 abbrev pub takeTests : ℕ → Sending → List Test
 takeTests w s = must (ltb (s .taken) cap) SPENT ∷ must (ltb (underWay s) w) FULL ∷ []
 
--- the place of the next message taken, which is message S
+-- the place of the next message taken, which is message S (RULES 6.5)
 abbrev pub nextPlace : ℕ → Sending → ℕ
 nextPlace w s = placeOf (s .origin) (underWay s) w
 
--- message S is taken: it is held, and has `size` octets
+-- message S is taken: it is held, and has `size` octets (RULES 5.1)
 unfoldable pub tookOne : ℕ → Sending → ℕ → Sending
 tookOne w s size = record {
   taken = s .taken + 1;
@@ -44,7 +45,7 @@ tookOne w s size = record {
   sizes = set (s .sizes) (nextPlace w s) size;
 }
 
--- h moves on by d, and "Messages below h are dropped too"
+-- h moves on by d (RULES 4.3), and "Messages below h are dropped too" (RULES 4.4)
 abbrev pub movedBy : ℕ → Sending → ℕ → Sending
 movedBy w s d = record {
   taken = s .taken;
@@ -54,7 +55,7 @@ movedBy w s d = record {
   sizes = s .sizes;
 }
 
--- "Base b against the last base heard h": let d = (b - h) mod 16,384; if 0 < d <= S - h, then h moves on by d
+-- "Base b against the last base heard h": let d = (b - h) mod 16,384; if 0 < d <= S - h, then h moves on by d (RULES 4.3)
 unfoldable pub heardBase : ℕ → Sending → ℕ → Sending
 heardBase w s b = let d = dist b (s .base) in pick (ltb 0 d && leb d (underWay s)) (movedBy w s d) s
 
@@ -68,22 +69,22 @@ droppedAt s d = record {
   sizes = s .sizes;
 }
 
--- "An acknowledged number k on its channel": if (k - h) mod 16,384 < S - h, that message is acknowledged and dropped
+-- "An acknowledged number k on its channel": if (k - h) mod 16,384 < S - h, that message is acknowledged and dropped (RULES 4.5)
 unfoldable pub ackedBy : Sending → ℕ → Sending
 ackedBy s k = let d = dist k (s .base) in pick (ltb d (underWay s)) (droppedAt s d) s
 
--- it named a message taken, not below the base, and not yet acknowledged
+-- number k names a message that was taken, is not below h, and is not acknowledged yet (RULES 4.5, RULES 4.6)
 unfoldable pub namedBy : Sending → ℕ → Bool
 namedBy s k = let d = dist k (s .base) in ltb d (underWay s) && bitOf (maskOf (s .unacked)) d
 
 abbrev pub acknowledgedBy : Sending → ℕ → Acknowledged
 acknowledgedBy s k = record { side = ackedBy s k; named = namedBy s k }
 
--- leaving modem relay "empties its stores": nothing is held any more; "S, h and R stay"
+-- leaving modem relay "empties its stores": nothing is held any more; "S, h and R stay" (RULES 9.14)
 unfoldable pub emptiedSending : Sending → Sending
 emptiedSending s = record { taken = s .taken; base = s .base; unacked = setOf 0; origin = s .origin; sizes = s .sizes }
 
--- "A report says how many messages are held there unacknowledged"
+-- "A report says how many messages are held there unacknowledged" (RULES 5.10)
 abbrev pub heldCount : Sending → ℕ
 heldCount s = countOf (maskOf (s .unacked))
 
@@ -92,12 +93,13 @@ abbrev pub heldAt : ℕ → Sending → Place → Ranked
 heldAt w s (At i) = Is (record { number = s .base + i; place = placeOf (s .origin) i w; size = getD (s .sizes) (placeOf (s .origin) i w) 0 })
 heldAt w s Missing = Nothing
 
--- "by its rank among the unacknowledged ones of its channel, oldest 0"
+-- "by its rank among the unacknowledged ones of its channel, oldest 0" (RULES 5.4)
 unfoldable pub heldOf : ℕ → Sending → ℕ → Ranked
 heldOf w s rank = heldAt w s (rankOf (maskOf (s .unacked)) rank)
 
--- What BOOK asks: a count of at most 16,777,215; "h over S, or S - h over the window; a held message outside h to S - 1 .. of 0
--- or over 132 octets"; a first place at or past the window is outside its span.
+-- What BOOK asks: S is at most 16,777,215 (RULES 15.8); not "h over S" (RULES 15.10), "or S - h over the window" (RULES 15.11); the place
+-- of message h is below the window (RULES 15.12); not "a held message outside h to S - 1" (RULES 15.13), "of 0 or over 132 octets"
+-- (RULES 15.15)
 abbrev pub sendingTests : ℕ → ℕ → Sending → List Bool
 sendingTests w z s =
     leb (s .taken) cap

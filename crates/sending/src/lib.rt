@@ -1,6 +1,6 @@
-// The sending side of a channel, by value (document 01, 'Packets'): what was taken, the last base heard, what is held
-// unacknowledged and where it lies. The window and the largest message are parameters.
-// It says when taking is refused as SPENT or FULL; the other refusals, and the octets, are left to others.
+// The sending side of a channel, by value: what was taken (RULES 5.1), the last base heard (RULES 4.3), what is held unacknowledged
+// (RULES 4.5, RULES 5.3) and where it lies (RULES 6.5). The window and the largest message are parameters.
+// It says when taking is refused as SPENT or FULL; the other refusals of taking are in `relay`, and the octets in `store`.
 ghost use mathlib.Core.Path.{_≡_};
 ghost use Prim.Native.Nat.{_-_, _≤_, _<_};
 ghost use Rattle.ground.specs.Refusal.{verdict};

@@ -15,36 +15,38 @@ use Rattle.slip.specs.declared.Slip.{Slip}
 use Rattle.slip.specs.declared.Reading.{Reading}
 use Rattle.slip.specs.declared.Reading.the-variants.{Says, Refused}
 
--- "form 1 (4 bits), identifier (7), payload type (7), messages handed out on channel 1 (24) and channel 2 (24), reason (8 ..), 22 zero bits"
+-- "form 1 (4 bits), identifier (7), payload type (7), messages handed out on channel 1 (24) and channel 2 (24), reason (8 ..), 22 zero
+-- bits" (RULES 8.1)
 abbrev pub layout : Slip → List Field
 layout v = of 4 1 ∷ of 7 (v .identifier) ∷ of 7 (v .kind) ∷ of 24 (v .count1) ∷ of 24 (v .count2) ∷ of 8 (v .reason) ∷ of 22 0 ∷ []
 
 unfoldable pub slipOctets : Slip → List ℕ
 slipOctets v = packed (layout v)
 
+-- the five values, read at their places (RULES 8.1, RULES 8.4)
 unfoldable pub slipAt : List ℕ → Slip
 slipAt s = record { identifier = bitsAt s 4 7; kind = bitsAt s 11 7; count1 = bitsAt s 18 24; count2 = bitsAt s 42 24; reason = bitsAt s 66 8 }
 
--- FORM: "a slip's form not 1 or a zero bit set"
+-- FORM: "a slip's form not 1 or a zero bit set" (RULES 13.2)
 unfoldable pub formFits : List ℕ → Bool
 formFits s = allHold (eqb (bitsAt s 0 4) 1 ∷ eqb (bitsAt s 74 22) 0 ∷ [])
 
--- identifier 0 to 127, payload type 96 to 127, counts of 24 bits, reason "0 asked, 1 ended by recovery"
+-- identifier 0 to 127, payload type 96 to 127, counts of 24 bits (RULES 14.17), reason "0 asked, 1 ended by recovery" (RULES 8.2)
 unfoldable pub slipFits : Slip → Bool
 slipFits v =
     allHold
     (ltb (v .identifier) 128 ∷ leb 96 (v .kind) ∷ ltb (v .kind) 128
     ∷ ltb (v .count1) 16777216 ∷ ltb (v .count2) 16777216 ∷ leb (v .reason) 1 ∷ [])
 
--- "Slip read: LENGTH, FORM, RANGE"
+-- "Slip read: LENGTH, FORM, RANGE" (RULES 14.17)
 abbrev pub readTests : List ℕ → List Test
 readTests s = must (eqb (length s) 12) LENGTH ∷ must (formFits s) FORM ∷ must (slipFits (slipAt s)) RANGE ∷ []
 
--- a slip is written by closing, whose only refusal of its own is ROOM
+-- a slip written by itself: RANGE, ROOM (RULES 14.20). Of these closing, which writes one, has ROOM only (RULES 14.9)
 abbrev pub writeTests : Slip → ℕ → List Test
 writeTests v space = must (slipFits v) RANGE ∷ must (leb 12 space) ROOM ∷ []
 
--- what each case of a reading stands for: the slip's values in the order of its fields, or the refusal's number
+-- what each case of a reading stands for: the slip's values in the order of its fields (RULES 8.4), or the refusal's number (RULES 17.3)
 abbrev pub answerOf : Reading → Answer
 answerOf (Says v) = accepted (v .identifier ∷ v .kind ∷ v .count1 ∷ v .count2 ∷ v .reason ∷ [])
 answerOf (Refused r) = refused r

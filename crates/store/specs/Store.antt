@@ -1,4 +1,4 @@
--- Where message octets lie: "one lent store of at least 42,240 octets (4 lines, 2 ways, 40 messages of 132)".
+-- Where message octets lie: "one lent store of at least 42,240 octets (4 lines, 2 ways, 40 messages of 132)" (RULES 6.1).
 -- Assumes nothing.
 use Prim.Native.Nat.{ℕ, _+_, _*_, _≤_, _<_}
 use mathlib.Core.List.{List}
@@ -9,26 +9,27 @@ use Rattle.store.specs.declared.Region.{Region}
 use Rattle.store.specs.declared.Way.{Way}
 use Rattle.store.specs.declared.Way.the-variants.{Sending, Receiving}
 
--- what a line and a way have lies together, the sending way's first
+-- the octets of a line and a way lie together, the sending way's first (RULES 6.4)
 abbrev pub wayNumber : Way → ℕ
 wayNumber Sending = 0
 wayNumber Receiving = 1
 
+-- the octet that those of a line and a way begin at (RULES 6.4)
 abbrev pub startOf : ℕ → Way → ℕ
 startOf line way = (line * 2 + wayNumber way) * (40 * 132)
 
--- the one definition of where the slots of a line, a way and a channel lie: 32 places of channel 1, then 8 of channel 2
+-- the one definition of where the slots of a line, a way and a channel lie: 32 places of channel 1, then 8 of channel 2 (RULES 6.4)
 unfoldable pub regionOf : ℕ → Way → ℕ → Region
 regionOf line way channel =
     pick (eqb channel 1)
     (record { start = startOf line way; places = 32; size = 132 })
     (record { start = startOf line way + 32 * 132; places = 8; size = 132 })
 
--- the octet that the slot of a place begins at
+-- the octet that the slot of a place begins at (RULES 6.4)
 abbrev pub slotAt : Region → ℕ → ℕ
 slotAt g place = g .start + place * g .size
 
--- the octet behind a region's last
+-- the octet after a region's last
 abbrev pub regionEnd : Region → ℕ
 regionEnd g = g .start + g .places * g .size
 

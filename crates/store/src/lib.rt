@@ -1,4 +1,4 @@
-// Where message octets lie in one lent store (document 01, 'Packets': 4 lines, 2 ways, 40 messages of 132), and how they are put
+// Where message octets lie in one lent store of 4 lines, 2 ways and 40 messages of 132 (RULES 6.1, RULES 6.4), and how they are put
 // there and copied out. A region is the slots of one line, way and channel: where it starts, how many slots it has and their size.
 // What lies in a slot, and for how long, is said by the record of the side that owns it.
 ghost use mathlib.Core.Path.{_≡_};

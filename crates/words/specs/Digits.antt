@@ -21,12 +21,12 @@ allDigits (d ∷ ds) = isDigit d && allDigits ds
 abbrev pub grown : ℕ → ℕ → ℕ
 grown n d = n * 10 + (d - 48)
 
--- the value of decimal digits, behind those that come to n
+-- the value of decimal digits that follow digits of value n
 unfoldable pub valueFrom : ℕ → List ℕ → ℕ
 valueFrom n [] = n
 valueFrom n (d ∷ ds) = valueFrom (grown n d) ds
 
--- what octets say behind those that come to n: their value, where all are digits and 64 bits hold it
+-- what octets say that follow digits of value n: the value of all together, where all are digits and 64 bits hold it
 unfoldable pub saysFrom : ℕ → List ℕ → Number
 saysFrom n w = pick (allDigits w && ltb (valueFrom n w) (2 ^ 64)) (number.Says (valueFrom n w)) number.Nothing
 

@@ -1,4 +1,4 @@
-// The words of an answer, put one behind the other into an output of the desk. Where it is full, no more is put.
+// The words of an answer, put one after the other into an output of the desk. Where it is full, no more is put.
 use crate::digits;
 use ground::Refusal;
 
@@ -11,7 +11,7 @@ fn octet(out: &mut [u8], at: usize, octet: u8) -> usize {
     at
 }
 
-// Puts a text at a place, and answers the place behind it.
+// Puts a text at a place, and answers the place after it.
 pub fn put(out: &mut [u8], at: usize, text: &[u8]) -> usize {
     let mut n = at;
     let mut i = 0;

@@ -1,5 +1,5 @@
-// The words of one line of a script: where each lies, and the numbers, modes and octets that they say. What a line calls, and
-// how many words it has, is left to others.
+// The words of one line of a script: where each lies, and the numbers, modes and octets that they say. Which calls there are, and
+// which words each of them asks for, is said by `desk`.
 ghost use Prim.Native.Nat.{_≤_};
 ghost use lib.ListN.{length};
 ghost use Rattle.words.specs.Words.{Within};
@@ -22,7 +22,7 @@ pub use arguments::read;
 pub use digits::Number;
 pub use digits::read_number;
 
-// A word of a line: from its first octet to behind its last. Where no word is left, both are the line's end.
+// A word of a line: where its first octet lies, and the place after its last. Where no word is left, both are the line's end.
 pub struct Word {
     pub from: usize,
     pub to: usize,

@@ -25,11 +25,11 @@ use Rattle.writing.specs.Write.{acksFor, headFor, headerLengthFor}
 use Rattle.writing.specs.declared.SendVerdict.{SendVerdict}
 use Rattle.writing.specs.declared.SendVerdict.the-variants.{Message, Refused}
 
--- "A held message is written by its rank among the unacknowledged ones of its channel"
+-- "A held message is written by its rank among the unacknowledged ones of its channel" (RULES 5.4)
 abbrev pub ranked : Line → ℕ → ℕ → Ranked
 ranked l channel rank = heldOf (windowOf channel) (sendingOf l channel) rank
 
--- "no message of that rank" is refused
+-- "no message of that rank" is refused (RULES 13.10)
 abbrev pub isHeld : Ranked → Bool
 isHeld (Is h) = true
 isHeld Nothing = false
@@ -43,7 +43,7 @@ heldIn Nothing = record { number = 0; place = 0; size = 0 }
 abbrev pub sentLength : Line → Held → ℕ
 sentLength l h = headerLengthFor l + h .size
 
--- "Held message written ..: NOLINE, MODE, CHANNEL, .. NOTHING, ROOM"; space is the output's length
+-- "Held message written ..: NOLINE, MODE, CHANNEL, .. NOTHING, ROOM" (RULES 14.4); space is the output's length
 unfoldable pub sendTests : Line → ℕ → ℕ → ℕ → List Test
 sendTests l channel rank space =
     relayChannelTests l channel
@@ -55,7 +55,8 @@ sendTests l channel rank space =
 unfoldable pub sendVerdict : Line → ℕ → ℕ → ℕ → SendVerdict
 sendVerdict l channel rank space = settle (verdict (sendTests l channel rank space)) Refused (Message (heldIn (ranked l channel rank)))
 
--- its packet: "Each channel numbers the messages taken for sending from 0, modulo 16,384"; its octets lie in the store
+-- its packet (RULES 5.5): "Each channel numbers the messages taken for sending from 0, modulo 16,384" (RULES 3.5); its octets lie in the
+-- store
 unfoldable pub heldPacket : Line → ℕ → ℕ → Held → List ℕ → List ℕ
 heldPacket l i channel h store =
     packetOctets (headFor l channel (h .number % modulus)) (acksFor l) (octetsIn store (regionOf i Sending channel) (h .place) (h .size))

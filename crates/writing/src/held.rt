@@ -1,6 +1,5 @@
-// A held message written as a packet. Document 01, 'Packets' and the paragraph 'Order'. The call is a verdict, worked out first, and
-// an effect, made only where the verdict lets it pass. What the packet has in common with every other that a line writes is made
-// in `writing`.
+// A held message written as a packet (RULES 5.4, RULES 5.5, RULES 14.4). The call is a verdict, worked out first, and an effect, made
+// only where the verdict lets it pass. What the packet has in common with every other that a line writes is made in lib.rt.
 ghost use mathlib.Core.Path.{_≡_};
 ghost use mathlib.Core.Bool.{true};
 ghost use Prim.Native.Nat.{_≤_, _<_};

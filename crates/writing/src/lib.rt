@@ -1,6 +1,6 @@
-// What a line writes: what all its packets have in common, and those without a message. Document 01, 'Packets' and the paragraph
-// 'Order'. The call is a verdict, worked out first, and an effect, made only where the verdict lets it pass. Every packet carries
-// the acknowledgements that the line owes, and they leave its list. Packets with a message stand in `laden`.
+// What a line writes: what all its packets have in common (RULES 5.5), and those without a message (RULES 5.6, RULES 14.6). The call is
+// a verdict, worked out first, and an effect, made only where the verdict lets it pass. Every packet carries acknowledgements that the
+// line owes, at most three, and they leave its list (RULES 5.7). Packets with a message stand in held.rt.
 ghost use mathlib.Core.Path.{_≡_};
 ghost use mathlib.Core.Bool.{true};
 ghost use Prim.Native.Nat.{_≤_};
