@@ -6,6 +6,7 @@ use mathlib.Core.Bool.{Bool, true, false}
 use mathlib.Core.List.{List, [], _∷_}
 use native.Mathlib.Omega.{arith}
 use borrow.Author.Tests.{le-leb}
+use lib.ListN.{length}
 use Rattle.ground.specs.Answer.{accepted}
 use Rattle.ground.specs.Pick.{pick}
 use Rattle.ground.proofs.Verdicts.{passes, verdict-on}
