@@ -1,6 +1,8 @@
 // CONNECT and BREAK bodies and slips, which need no book: read, written, and answered.
 use crate::answer;
 use crate::answer::Reply;
+use crate::parse::BREAK;
+use crate::parse::CONNECT;
 use breaks::Break;
 use connect::Connect;
 use connect::Way;
@@ -129,47 +131,31 @@ fn read_slip(body: &[u8], out: &mut [u8]) -> Reply {
     }
 }
 
-// The words of a line from `at` on, which says what to do with a CONNECT (2), a BREAK (3) or a slip (4).
-fn arguments(body: u8, s: &[u8], at: usize, octets: &mut [u8]) -> Arguments {
-    match body {
-        2 => words::call(s, at, b"read o write bbbbwwffffffwwbbwwr", octets),
-        3 => words::call(s, at, b"read o write bbbr", octets),
-        _ => words::call(s, at, b"read o", octets),
-    }
-}
-
-// Reads the first octets as a body or a slip.
-fn read(body: u8, octets: &[u8], out: &mut [u8]) -> Reply {
-    match body {
-        2 => read_connect(octets, out),
-        3 => read_break(octets, out),
+// Reads octets as a body or a slip.
+fn read(place: u8, octets: &[u8], out: &mut [u8]) -> Reply {
+    match place {
+        CONNECT => read_connect(octets, out),
+        BREAK => read_break(octets, out),
         _ => read_slip(octets, out),
     }
 }
 
 // Writes a body.
-fn write(body: u8, a: Arguments, octets: &mut [u8]) -> Reply {
-    if body == 2 {
+fn write(place: u8, a: Arguments, octets: &mut [u8]) -> Reply {
+    if place == CONNECT {
         return write_connect(a, octets);
     }
     write_break(a, octets)
 }
 
-// Makes the call of a line whose first word names a body or a slip.
-pub fn call(first: Arguments, s: &[u8], octets: &mut [u8], out: &mut [u8]) -> Reply {
-    if first.fault != 0 {
-        return Reply::NoCall(first.fault);
-    }
-    let a = arguments(first.call, s, first.long(0) as usize, octets);
+// Makes a call whose words are good, on the body that a line names.
+pub fn make(place: u8, a: Arguments, octets: &mut [u8], out: &mut [u8]) -> Reply {
     let size = a.size;
-    if a.fault != 0 {
-        return Reply::NoCall(a.fault);
-    }
     if a.call == 1 {
-        return write(first.call, a, octets);
+        return write(place, a, octets);
     }
     if octets.len() < size {
         return Reply::NoCall(answer::TOO_LONG);
     }
-    read(first.call, &octets[0..size], out)
+    read(place, &octets[0..size], out)
 }

@@ -1,8 +1,8 @@
-// The calls at one gateway. A table says which words each asks for, the call is made, and the gateway is left with what the
-// call answered.
+// The calls at one gateway. Each is made, and leaves the gateway with what it answered.
 use crate::Seat;
 use crate::answer;
 use crate::answer::Reply;
+use crate::parse::Request;
 use crate::spoil;
 use line::Settings;
 use words::Arguments;
@@ -169,8 +169,12 @@ fn lend(seat: Seat, a: Arguments) -> Seat {
     }
 }
 
-// Makes a call whose words are good. Its number is its place in the table of `call`.
-fn make(seat: Seat, a: Arguments, s: &[u8], store: &mut [u8], octets: &mut [u8]) -> Seat {
+// Makes a call whose words are good.
+pub fn make(seat: Seat, request: Request, store: &mut [u8], octets: &mut [u8]) -> Seat {
+    let a = request.a;
+    if request.spoils {
+        return spoil::spoil(seat, request.line, a, store, octets);
+    }
     let lent = seat.lent;
     if store.len() < lent {
         return seat;
@@ -179,22 +183,7 @@ fn make(seat: Seat, a: Arguments, s: &[u8], store: &mut [u8], octets: &mut [u8])
     match call {
         0 => fresh(store),
         1 => lend(seat, a),
-        2 => spoil::spoil(seat, s, a.long(0) as usize, store, octets),
         3..=9 => without_store(seat, a, octets),
         _ => with_store(seat, a, &mut store[0..lent], octets),
     }
-}
-
-// Makes the call at a gateway that a line names, from `at` on.
-pub fn call(seat: Seat, s: &[u8], at: usize, store: &mut [u8], octets: &mut [u8]) -> Seat {
-    let a = words::call(
-        s,
-        at,
-        b"fresh . lend s spoil * open bbbffq hear bmq ask bmq tick bq held bb close br empty bbr take bbo send bbbr arrive o out bbr",
-        octets,
-    );
-    if a.fault != 0 {
-        return seat.no_call(a.fault);
-    }
-    make(seat, a, s, store, octets)
 }

@@ -1,15 +1,17 @@
 // The desk: it reads a script of calls on standard input, makes each call at one of two gateways, A and B, and writes one line
 // of answer for each. It decides nothing: it reads a line, makes the call, and writes what the call answered. docs/SCRIPT.md
 // says what a line may be.
+ghost use Prim.Native.Nat.{_≤_, _<_};
 use answer::Reply;
 use book::Book;
+use parse::Request;
 use script::Script;
-use words::Arguments;
 
 mod answer; // answer.rt: the words of an answer
 mod bodies; // bodies.rt: CONNECT, BREAK and slips
 mod commands; // commands.rt: the calls at a gateway
 mod record; // record.rt: `spoil`, one part of a line's record
+mod parse; // parse.rt: what a line asks for
 mod script; // script.rt: the script's octets, cut into lines
 mod sides; // sides.rt: `spoil`, one part of a channel's sides
 mod spoil; // spoil.rt: `spoil`, the part of a book that it names
@@ -21,10 +23,11 @@ pub struct Seat {
     pub reply: Reply,
 }
 
-// The two gateways, the line that is being read, and what the last one is answered.
+// The books of the gateways A and B, how much of their stores is lent, the line that is being read, and what the last one is
+// answered.
 struct Desk {
-    a: Seat,
-    b: Seat,
+    books: [Book; 2],
+    lent: [usize; 2],
     script: Script,
     reply: Reply,
 }
@@ -60,26 +63,38 @@ impl Seat {
 
 impl Desk {
     fn fresh() -> Desk {
-        let seat = Seat::fresh();
+        let book = gateway::fresh();
         let script = Script::fresh();
         Desk {
-            a: seat,
-            b: seat,
+            books: [book, book],
+            lent: [42240, 42240],
             script,
             reply: Reply::Text(answer::OK),
         }
     }
 
-    // After a call at A.
-    fn with_a(self, a: Seat) -> Desk {
-        let reply = a.reply;
-        Desk { a, reply, ..self }
+    // The gateway of a number.
+    fn seat(self, which: usize) -> Seat
+        requires { ⌜ which < 2 ⌝ }
+    {
+        let book = self.books[which];
+        Seat {
+            book,
+            lent: self.lent[which],
+            reply: Reply::Text(answer::OK),
+        }
     }
 
-    // After a call at B.
-    fn with_b(self, b: Seat) -> Desk {
-        let reply = b.reply;
-        Desk { b, reply, ..self }
+    // After a call at the gateway of a number.
+    fn with(self, which: usize, seat: Seat) -> Desk
+        requires { ⌜ which < 2 ⌝ }
+    {
+        let book = seat.book;
+        let reply = seat.reply;
+        let mut next = self;
+        next.books[which] = book;
+        next.lent[which] = seat.lent;
+        next.answered(reply)
     }
 
     // After a line that names no gateway.
@@ -88,46 +103,49 @@ impl Desk {
     }
 }
 
-// Makes the call at one of the gateways that a line names. Half of the stores is A's and half is B's.
-fn at_gateway(
-    desk: Desk,
-    first: Arguments,
-    s: &[u8],
-    stores: &mut [u8],
-    octets: &mut [u8],
-) -> Desk {
-    let at = first.long(0) as usize;
+// Where the store of a gateway begins in the stores: half of them is A's and half is B's.
+fn store_at(which: usize, half: usize) -> usize
+    ensures { λ r. ⌜ r ≤ half ⌝ }
+{
+    if which == 0 {
+        return 0;
+    }
+    half
+}
+
+// Makes a call at a gateway.
+fn at_gateway(desk: Desk, request: Request, stores: &mut [u8], octets: &mut [u8]) -> Desk {
+    let which = request.place as usize;
+    if 1 < which {
+        return desk;
+    }
     let half = stores.len() / 2;
-    if first.call == 0 {
-        let next = commands::call(desk.a, s, at, &mut stores[0..half], octets);
-        return desk.with_a(next);
-    }
-    let next = commands::call(desk.b, s, at, &mut stores[half..], octets);
-    desk.with_b(next)
+    let from = store_at(which, half);
+    let seat = commands::make(
+        desk.seat(which),
+        request,
+        &mut stores[from..from + half],
+        octets,
+    );
+    desk.with(which, seat)
 }
 
-// Makes the call of a line.
-fn call(desk: Desk, s: &[u8], stores: &mut [u8], octets: &mut [u8], out: &mut [u8]) -> Desk {
-    let first = words::call(s, 0, b"A * B * connect * break * slip *", octets);
-    if (first.fault == 0) & (first.call < 2) {
-        return at_gateway(desk, first, s, stores, octets);
-    }
-    desk.answered(bodies::call(first, s, octets, out))
-}
-
-// Makes the call of a line of so many octets, unless it is longer than the buffer.
-fn call_whole(
+// Makes the call that a line asks for.
+fn make(
     desk: Desk,
-    count: usize,
-    line: &[u8],
+    request: Request,
     stores: &mut [u8],
     octets: &mut [u8],
     out: &mut [u8],
 ) -> Desk {
-    if line.len() < count {
-        return desk.answered(Reply::NoCall(answer::TOO_LONG));
+    let a = request.a;
+    if a.fault != 0 {
+        return desk.answered(Reply::NoCall(a.fault));
     }
-    call(desk, &line[0..count], stores, octets, out)
+    if request.place < parse::CONNECT {
+        return at_gateway(desk, request, stores, octets);
+    }
+    desk.answered(bodies::make(request.place, a, octets, out))
 }
 
 // A line of the script is answered, once it has ended and unless it is blank or a comment.
@@ -136,7 +154,8 @@ fn serve(desk: Desk, line: &[u8], stores: &mut [u8], octets: &mut [u8], out: &mu
     if !script.answered() {
         return desk;
     }
-    let next = call_whole(desk, script.count, line, stores, octets, out);
+    let request = parse::read(script, line, octets);
+    let next = make(desk, request, stores, octets, out);
     let reply = next.reply;
     answer::say(reply, script.number, octets, out);
     next

@@ -9,14 +9,14 @@ fn with_mode(modes: Modes, a: Arguments) -> Modes {
     let mut next = modes;
     let call = a.call;
     match call {
-        5 => next.vbd = a.flag(0),
-        6 => next.relay = a.flag(0),
-        7 => next.left = a.flag(0),
-        8 => next.local = a.octet(0),
-        9 => next.remote = a.octet(0),
-        10 => next.tries = a.octet(0),
-        11 => next.since = a.long(0),
-        12 => next.tried = a.long(0),
+        7 => next.vbd = a.flag(0),
+        8 => next.relay = a.flag(0),
+        9 => next.left = a.flag(0),
+        10 => next.local = a.octet(0),
+        11 => next.remote = a.octet(0),
+        12 => next.tries = a.octet(0),
+        13 => next.since = a.long(0),
+        14 => next.tried = a.long(0),
         _ => next.last = a.long(0),
     }
     next
@@ -34,7 +34,7 @@ fn with_entry(list: Owed, i: usize, channel: u8, number: u16) -> Owed {
 
 // The list with another count, or with an entry set.
 fn with_owed(list: Owed, a: Arguments) -> Owed {
-    if a.call == 3 {
+    if a.call == 5 {
         return Owed {
             count: a.octet(0),
             ..list
@@ -48,10 +48,10 @@ pub fn set(l: Line, a: Arguments) -> Line {
     let mut next = l;
     let call = a.call;
     match call {
-        0 => next.opened = a.flag(0),
-        1 => next.identifier = a.octet(0),
-        2 => next.kind = a.octet(0),
-        3 | 4 => next.owed = with_owed(l.owed, a),
+        2 => next.opened = a.flag(0),
+        3 => next.identifier = a.octet(0),
+        4 => next.kind = a.octet(0),
+        5 | 6 => next.owed = with_owed(l.owed, a),
         _ => next.modes = with_mode(l.modes, a),
     }
     next

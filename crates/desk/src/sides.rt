@@ -1,5 +1,6 @@
 // What `spoil` sets in the sides of a line's channel, by the part's place in the table of `spoil`: the counts S, h and R, and which
-// messages are held or stored. Message n lies at place n mod the window, and `origin` is the place of message h or R (RULES 6.5).
+// messages are held or stored. A message lies at the place of its number less the window as often as that goes, as the library has
+// it, which `first` says of h and of R.
 ghost use Prim.Native.Nat.{_≤_, _<_};
 use line::Line;
 use places::Places;
@@ -10,17 +11,17 @@ use store::Way;
 use words::Arguments;
 
 // The first of the parts here, and those that name a message.
-pub const FIRST: u8 = 14;
+pub const FIRST: u8 = 16;
 
-const DROPPED: u8 = 16;
+const DROPPED: u8 = 18;
 
-const HELD: u8 = 17;
+const HELD: u8 = 19;
 
-const MISSING: u8 = 19;
+const MISSING: u8 = 21;
 
-const STORED: u8 = 20;
+const STORED: u8 = 22;
 
-// A number modulo the window of a channel, which is 32 on channel 1, or else 8.
+// A number less the window of a channel as often as that goes: 32 of channel 1, or else 8.
 fn less(channel: u8, n: u32) -> u32
     ensures { λ r. ⌜ r < 32 ⌝ }
 {
@@ -52,14 +53,21 @@ fn offset(oldest: u32, number: u32) -> u32
     0
 }
 
-// Can the message be said that the words name? Its number is near h or R, and it has at most 255 octets.
-pub fn in_reach(l: Line, a: Arguments) -> bool {
-    let channel = a.octet(0);
-    let number = a.full(1);
+// The oldest message that can be named, h or R of the channel.
+pub fn oldest(l: Line, a: Arguments) -> u32 {
+    if a.call <= HELD {
+        let side = l.sending(a.octet(0));
+        return side.base;
+    }
+    let side = l.receiving(a.octet(0));
+    side.next
+}
+
+// Can the message be said, if the words name one? Its number is near the oldest, and it has at most 255 octets.
+pub fn in_reach(oldest: u32, a: Arguments) -> bool {
     let call = a.call;
     match call {
-        DROPPED | HELD => near(l.sending(channel).base, number) & (a.size < 256),
-        MISSING | STORED => near(l.receiving(channel).next, number) & (a.size < 256),
+        DROPPED | HELD | MISSING | STORED => near(oldest, a.full(1)) & (a.size < 256),
         _ => true,
     }
 }
@@ -80,8 +88,8 @@ fn with_sent(side: Sending, channel: u8, a: Arguments) -> Sending {
     let mut next = side;
     let call = a.call;
     match call {
-        14 => next.taken = number,
-        15 => {
+        16 => next.taken = number,
+        17 => {
             next.base = number;
             next.origin = place;
             next.unacked = Places::none();
@@ -103,7 +111,7 @@ fn with_received(side: Receiving, channel: u8, a: Arguments) -> Receiving {
     let mut next = side;
     let call = a.call;
     match call {
-        18 => {
+        20 => {
             next.next = number;
             next.origin = place;
             next.stored = Places::none();

@@ -96,6 +96,12 @@ impl Arguments {
         }
     }
 
+    // No words are read, for that reason.
+    pub fn none(fault: u8) -> Arguments {
+        let none = Arguments::fresh(0);
+        Arguments { fault, ..none }
+    }
+
     // One word was not what was asked for. The first fault is the one that is told.
     fn with_fault(self, fault: u8) -> Arguments
         ensures { λ r. ⌜ r .size ≡ self .size ⌝ }
