@@ -1,5 +1,5 @@
--- A set of places as a mask, whose bit i is set where place i is in the set. All that is said of a mask is said of a number,
--- so that a wider mask changes `maskOf`, `setOf` and `widest` here and nothing else.
+-- A set of places as a mask, whose bit i is set where place i is in the set. All that is said of a mask is said of a number, so that
+-- a wider mask changes `maskOf`, `setOf` and `widest` here, the arrays of sizes, and the laws of `flow` that compute a mask from its set.
 -- Assumes nothing.
 use Prim.Native.Nat.{ℕ, zero, suc, _+_, _-_, _/_, _%_, _^_}
 use mathlib.Core.Bool.{Bool, _&&_}
