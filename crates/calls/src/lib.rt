@@ -1,6 +1,7 @@
 // The order of refusals: document 01, the paragraph 'Order'. Each function here is a verdict on a book: what every call asks
 // first, all that opening and closing ask before they make their effect, and of the mode calls what they ask of the book, up to
-// NOLINE; CLOCK to MODE stand in `indication`, `request` and `recovery`. Of the store and of the output only the length counts.
+// NOLINE; CLOCK to MODE are asked in `mode`. Which calls there are and what each does is defined in specs/, beside the order, specs/Order.antt.
+// Of the store and of the output only the length counts.
 ghost use mathlib.Core.Path.{_≡_};
 ghost use Prim.Native.Nat.{_≤_, _<_};
 ghost use mathlib.Core.List.{[], _∷_};
