@@ -1,4 +1,4 @@
-// The BREAK body: V.150.1 clause 15.4.6, Table 26, as document 01 serves it in section 'Bodies'. Two octets, read and written.
+// The BREAK body: V.150.1 clause 15.4.6, Table 26, as RULES section 12 serves it. Two octets, read and written.
 ghost use mathlib.Core.Path.{_≡_};
 ghost use lib.ListN.{length};
 ghost use Rattle.ground.specs.Refusal.{verdict};

@@ -1,4 +1,4 @@
--- The paragraph 'Order', whole: for each call one list of its refusals in their order, each with the test that keeps it away. Nothing
+-- RULES section 14, the paragraph 'Order' of document 01, whole: for each call one list of its refusals in their order, each with the test that keeps it away. Nothing
 -- else says in which order a call asks. Of the store and of the output only the length counts.
 -- Assumes nothing.
 use Prim.Native.Nat.{ℕ}
@@ -30,9 +30,9 @@ use Rattle.book.specs.declared.Owner.the-variants.{At, Nobody}
 use Rattle.calls.specs.Call.{Call}
 use Rattle.calls.specs.Call as call
 
--- "Any call with a book: BOOK, then ROOM for the store if lent, then a line number over 3 as RANGE, then the rest." So each list begins.
+-- "Any call with a book: BOOK, then ROOM for the store if lent, then a line number over 3 as RANGE, then the rest." So each list begins (RULES 14.1).
 
--- "Opening: TAKEN for the line, RANGE, TAKEN for the identifier."
+-- "Opening: TAKEN for the line, RANGE, TAKEN for the identifier." (RULES 14.8)
 unfoldable pub openOrder : Book → ℕ → Settings → List Test
 openOrder b i s =
     must (bookFits b) BOOK
@@ -42,7 +42,7 @@ openOrder b i s =
     ∷ must (not (taken b (s .identifier))) TAKEN
     ∷ []
 
--- "Closing: NOLINE, ROOM."; a slip has 12 octets
+-- "Closing: NOLINE, ROOM."; a slip has 12 octets (RULES 14.9)
 unfoldable pub closeOrder : Book → ℕ → ℕ → List Test
 closeOrder b i space =
     must (bookFits b) BOOK
@@ -51,7 +51,7 @@ closeOrder b i space =
     ∷ must (leb 12 space) ROOM
     ∷ []
 
--- "Mode calls: NOLINE, CLOCK, RECOVERY, RANGE, MODE." An indication is never refused MODE: a, v, m, f or t is indicated
+-- "Mode calls: NOLINE, CLOCK, RECOVERY, RANGE, MODE." An indication is never refused MODE: a, v, m, f or t is indicated (RULES 14.10)
 unfoldable pub hearOrder : Book → ℕ → ℕ → ℕ → List Test
 hearOrder b i mode time =
     let m = lineOf b i .modes in
@@ -63,7 +63,7 @@ hearOrder b i mode time =
     ∷ must (leb audio mode && leb mode text) RANGE
     ∷ []
 
--- a request: "request while recovering", "a mode not offered", "request for m once m was left"
+-- a request: "request while recovering", "a mode not offered", "request for m once m was left" (RULES 14.11)
 unfoldable pub askOrder : Book → ℕ → ℕ → ℕ → List Test
 askOrder b i mode time =
     let m = lineOf b i .modes in
@@ -76,7 +76,7 @@ askOrder b i mode time =
     ∷ must (not (eqb mode modem && m .left)) MODE
     ∷ []
 
--- "A tick on an ended line says ended again": of the mode calls' refusals a tick has NOLINE and CLOCK
+-- "A tick on an ended line says ended again": of the mode calls' refusals a tick has NOLINE and CLOCK (RULES 14.12)
 unfoldable pub tickOrder : Book → ℕ → ℕ → List Test
 tickOrder b i time =
     must (bookFits b) BOOK
@@ -85,7 +85,7 @@ tickOrder b i time =
     ∷ must (leb (lineOf b i .modes .last) time) CLOCK
     ∷ []
 
--- "Message taken: NOLINE, MODE, CHANNEL, SIZE, SPENT, FULL."; the message has n octets
+-- "Message taken: NOLINE, MODE, CHANNEL, SIZE, SPENT, FULL."; the message has n octets (RULES 14.3)
 unfoldable pub takeOrder : Book → ℕ → ℕ → ℕ → ℕ → List Test
 takeOrder b store i channel n =
     let l = lineOf b i in
@@ -101,7 +101,7 @@ takeOrder b store i channel n =
     ∷ must (ltb (underWay s) (windowOf channel)) FULL
     ∷ []
 
--- "Held message written ..: NOLINE, MODE, CHANNEL, .. NOTHING, ROOM."
+-- "Held message written ..: NOLINE, MODE, CHANNEL, .. NOTHING, ROOM." (RULES 14.4)
 unfoldable pub sendOrder : Book → ℕ → ℕ → ℕ → ℕ → ℕ → List Test
 sendOrder b store i channel rank space =
     let l = lineOf b i in
@@ -115,7 +115,7 @@ sendOrder b store i channel rank space =
     ∷ must (leb (sentLength l (heldIn (ranked l channel rank))) space) ROOM
     ∷ []
 
--- "hand-out: NOLINE, MODE, CHANNEL, SPENT (hand-out only), NOTHING, ROOM."; message R stands at place 0 of what is stored
+-- "hand-out: NOLINE, MODE, CHANNEL, SPENT (hand-out only), NOTHING, ROOM."; message R stands at place 0 of what is stored (RULES 14.5)
 unfoldable pub handOutOrder : Book → ℕ → ℕ → ℕ → ℕ → List Test
 handOutOrder b store i channel space =
     let l = lineOf b i in
@@ -131,7 +131,7 @@ handOutOrder b store i channel space =
     ∷ must (leb (nextSize r) space) ROOM
     ∷ []
 
--- "Empty packet: NOLINE, MODE, CHANNEL, ROOM."; "empty-packet call not naming 0 to 2"
+-- "Empty packet: NOLINE, MODE, CHANNEL, ROOM."; "empty-packet call not naming 0 to 2" (RULES 14.6)
 unfoldable pub emptyOrder : Book → ℕ → ℕ → ℕ → List Test
 emptyOrder b i channel space =
     let l = lineOf b i in
@@ -143,7 +143,7 @@ emptyOrder b i channel space =
     ∷ must (leb (headerLengthFor l) space) ROOM
     ∷ []
 
--- "Held report: NOLINE, MODE, CHANNEL."
+-- "Held report: NOLINE, MODE, CHANNEL." (RULES 14.7)
 unfoldable pub reportOrder : Book → ℕ → ℕ → List Test
 reportOrder b i channel =
     let l = lineOf b i in
@@ -166,7 +166,7 @@ abbrev pub lineAt : Owner → ℕ
 lineAt (At i) = i
 lineAt Nobody = 0
 
--- "Arrival: SHORT for 6 octets, FORM, NOLINE, TYPE, MODE, SHORT for the list, CHANNEL, SIZE."; s is the packet's octets
+-- "Arrival: SHORT for 6 octets, FORM, NOLINE, TYPE, MODE, SHORT for the list, CHANNEL, SIZE."; s is the packet's octets (RULES 14.2)
 unfoldable pub arriveOrder : Book → ℕ → List ℕ → List Test
 arriveOrder b store s =
     let l = lineOf b (lineAt (packetLine b s)) in

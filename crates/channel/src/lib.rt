@@ -48,7 +48,7 @@ impl Channel {
     }
 }
 
-// (n - h) mod 16,384. The only place where a remainder is taken.
+// (n - h) mod 16,384. The only place with `%`: a number's 14 bits are taken by a mask where it is written.
 pub fn distance(n: u32, h: u32) -> u32
     ensures { λ r. ⌜ r ≡ dist n h ⌝ }
 {

@@ -1,4 +1,4 @@
-// The CONNECT body: V.150.1 clause 15.4.5, Table 25, as document 01 serves it in section 'Bodies'. Read and written.
+// The CONNECT body: V.150.1 clause 15.4.5, Table 25, as RULES section 11 serves it. Read and written.
 // A body has 8 octets; 14 where the compression is V.42 bis, 18 where it is V.44.
 ghost use mathlib.Core.Path.{_≡_};
 ghost use mathlib.Core.Bool.{true};

@@ -1,4 +1,4 @@
--- Document 01's number and values for each case of the answer to an opening: number 0 where the call is accepted, else the refusal's.
+-- The rules' number and values (RULES 17.3) for each case of the answer to an opening: number 0 where the call is accepted, else the refusal's.
 -- Assumes nothing.
 use mathlib.Core.List.{[]}
 use Rattle.ground.specs.Answer.{Answer, accepted, refused}

@@ -1,5 +1,5 @@
-// The relay calls on a book of four lines by which messages come in: a packet that arrives, a message handed out. They are calls of
-// the library, and `gateway` passes them on.
+// The relay calls on a book of four lines by which messages come in: a packet that arrives, a message handed out
+// (RULES 4.1, RULES 4.2, RULES 5.8). They are calls of the library, and `gateway` passes them on.
 ghost use Prim.Native.Nat.{ℕ};
 ghost use mathlib.Core.Path.{_≡_};
 ghost use mathlib.Core.List.{List};

@@ -1,4 +1,4 @@
-// The verdicts of the calls by which messages come in: document 01, the paragraph 'Order'. A packet's identifier names its line. Of
+// The verdicts of the calls by which messages come in: RULES 14.2, RULES 14.5. A packet's identifier names its line. Of
 // the store and of the output only the length counts. What an accepted call does stands beside this file, in lib.rt.
 ghost use mathlib.Core.Path.{_≡_};
 ghost use Rattle.ground.specs.Refusal.{verdict, settle};

@@ -1,5 +1,5 @@
 // The relay calls on a book of four lines by which messages go out: a message taken, a held message or an empty packet written, the
-// report of what is held. They are calls of the library, and `gateway` passes them on.
+// report of what is held (RULES section 5). They are calls of the library, and `gateway` passes them on.
 ghost use Prim.Native.Nat.{ℕ};
 ghost use mathlib.Core.Path.{_≡_};
 ghost use mathlib.Core.List.{List};

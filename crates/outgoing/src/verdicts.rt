@@ -1,5 +1,5 @@
-// The verdicts of the calls by which messages go out: document 01, the paragraph 'Order'. Of the store and of the output only the
-// length counts. What an accepted call does stands beside this file, in lib.rt.
+// The verdicts of the calls by which messages go out: RULES 14.3, RULES 14.4, RULES 14.6, RULES 14.7. Of the store and of the
+// output only the length counts. What an accepted call does stands beside this file, in lib.rt.
 ghost use mathlib.Core.Path.{_≡_};
 ghost use Rattle.ground.specs.Refusal.{verdict, settle};
 ghost use Rattle.writing.specs.Send.{ranked, heldIn};

@@ -1,4 +1,4 @@
-// A relay packet written: document 01, section 'Packets'. What the values are, and how they are read, is `packet`'s.
+// A relay packet written (RULES 2.1 to RULES 2.9, RULES 14.18). What the values are, and how they are read, stands in lib.rt.
 ghost use mathlib.Core.Path.{_≡_};
 ghost use lib.ListN.{length};
 ghost use Prim.Native.Nat.{_+_, _*_};

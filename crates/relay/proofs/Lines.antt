@@ -69,7 +69,7 @@ channel-span channel e =
     ⊎-elim (λ a. let h : channel ≡ 1 = eqb-true _ _ a in (omega arith, omega arith)) (λ b. let h : channel ≡ 2 = eqb-true _ _ b in (omega arith, omega arith))
     (or-cases (eqb channel 1) (eqb channel 2) e)
 
--- a region has a room for each place of the channel's window, and a slot holds the largest message
+-- a region has a slot for each place of the channel's window, and a slot holds the largest message
 pub region-places : (i : ℕ) (way : Way) (channel : ℕ) → regionOf i way channel .places ≡ windowOf channel
 unfolding regionOf
 region-places i way channel = go (eqb channel 1)

@@ -1,5 +1,5 @@
-// The mode calls on a book of four lines: an indication heard, a request, a tick. They are calls of the library, and `gateway` passes
-// them on.
+// The mode calls on a book of four lines: an indication heard, a request, a tick (RULES 9.3, RULES 10.1). They are calls of the
+// library, and `gateway` passes them on.
 ghost use Prim.Native.Nat.{ℕ};
 ghost use mathlib.Core.Path.{_≡_};
 ghost use mathlib.Core.List.{List};

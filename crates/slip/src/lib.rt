@@ -1,4 +1,4 @@
-// The slip of a closed line: document 01, section 'Opening, closing, slips'. Form 1 has 12 octets, read and written.
+// The slip of a closed line: RULES section 8. Form 1 has 12 octets, read and written.
 ghost use mathlib.Core.Path.{_≡_};
 ghost use lib.ListN.{length};
 ghost use lib.Seq.{sets};

@@ -129,15 +129,15 @@ regions-apart x y s t d = go (decLt (order x) (order y)) (decLt (order y) (order
     go (no a) (yes l) = inr (earlier y x t s l)
     go (no a) (no b) = one (omega arith)
 
--- Rooms of different lines, ways, channels or places do not overlap.
-pub record Room : Type 0 where
+-- Slots of different lines, ways, channels or places do not overlap.
+pub record Slot : Type 0 where
   pub whose : Owner
   pub place : ℕ
 
-pub rooms-apart : (a b : Room) → Served (a .whose) → Served (b .whose) → a .place < region (a .whose) .places → b .place < region (b .whose) .places
+pub slots-apart : (a b : Slot) → Served (a .whose) → Served (b .whose) → a .place < region (a .whose) .places → b .place < region (b .whose) .places
     → a ≢ b → Apart (slotAt (region (a .whose)) (a .place)) (region (a .whose) .size) (slotAt (region (b .whose)) (b .place))
     (region (b .whose) .size)
-rooms-apart a b s t p q d = go (whose-same (a .whose) (b .whose))
+slots-apart a b s t p q d = go (whose-same (a .whose) (b .whose))
   where
     go : Dec (a .whose ≡ b .whose) → Apart (slotAt (region (a .whose)) (a .place)) (region (a .whose) .size)
         (slotAt (region (b .whose)) (b .place)) (region (b .whose) .size)

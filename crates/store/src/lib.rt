@@ -40,7 +40,7 @@ impl Region {
     pub const LENGTH: usize = 42240;
 
     // The slots of both channels of one line and way.
-    pub const ROOMS: usize = 40;
+    pub const SLOTS: usize = 40;
 
     pub const SIZE: usize = 132;
 
@@ -49,7 +49,7 @@ impl Region {
         ensures { λ r. ⌜ r ≡ regionOf line way channel ⌝ }
     {
         let side = way.number();
-        let start = (line as usize * 2 + side) * (Region::ROOMS * Region::SIZE);
+        let start = (line as usize * 2 + side) * (Region::SLOTS * Region::SIZE);
         if channel == 1 {
             return Region {
                 start,
