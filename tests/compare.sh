@@ -46,7 +46,7 @@ held() {
     local name=$1 asked=$3 given
     shift
     ran "$name" "$log/script" "$second/scripts" "$@"
-    ran "$name" "$log/one" run desk < "$log/script"
+    ran "$name" "$log/one" run desk < "$log/script" 2> "$log/told"
     ran "$name" "$log/other" "$second/desk2" < "$log/script"
     given=$(($(wc -l < "$log/one") - 1))
     [ "$given" -ge "$asked" ] || fail "$name: $given answers, where $asked calls were asked for"

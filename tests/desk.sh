@@ -23,7 +23,13 @@ held() {
 
 for script in tests/desk/*.script; do
     name=${script%.script}
-    run desk < "$script" > "$log/given"
+    run desk < "$script" > "$log/given" 2> "$log/told"
+    # Each line that is no call is told on standard error with its number and why.
+    if ! diff <(sed -n 's/^? //p' "$log/given") <(sed -n 's/^line \([0-9]*\): ..*$/\1/p' "$log/told") > "$log/diff"; then
+        echo "$script: what standard error says does not fit the answers"
+        head -n 5 "$log/diff"
+        bad=1
+    fi
     held "$(basename "$name")" "$name.expected" "$log/given"
 done
 
