@@ -1,5 +1,5 @@
 -- A verdict worked out in two parts, as every call with a book does: where the earlier tests refuse, the call stops at their refusal, and
--- where they pass, those behind them decide.
+-- where they pass, those after them decide.
 -- Assumes nothing.
 use mathlib.Core.Path.{_≡_, sym, ap, _∙_}
 use mathlib.Core.List.{List, _++_}

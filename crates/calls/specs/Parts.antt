@@ -1,4 +1,4 @@
--- How the parts that the crates below prove make up the lists of `Order`: what every call asks first, and behind it what its line and
+-- How the parts that the crates below prove make up the lists of `Order`: what every call asks first, and after it what its line and
 -- its channel ask. proofs/OrderParts.antt proves of each call that the parts put together are its list.
 -- Assumes nothing.
 use Prim.Native.Nat.{ℕ}
@@ -43,7 +43,7 @@ lineNumber i = must (leb i 3) RANGE
 abbrev pub isOpen : Line → Test
 isOpen l = must (l .opened) NOLINE
 
--- opening, behind them
+-- opening, after them
 unfoldable pub openTests : Book → ℕ → Settings → List Test
 openTests b i s = must (not (lineOf b i .opened)) TAKEN ∷ must (settingsFit (s .identifier) (s .kind)) RANGE ∷ must (not (taken b (s .identifier))) TAKEN ∷ []
 

@@ -60,7 +60,7 @@ fn compression_at(s: &[u8]) -> u8
     (field::word_at(s, 0) >> 4 & 15) as u8
 }
 
-// One direction's numbers: 0 is transmit, and 1, receive, stands behind it field by field.
+// One direction's numbers: 0 is transmit, and 1, receive, stands after it field by field.
 fn way_at(s: &[u8], way: usize) -> Way
     requires { ⌜ way < 2 ⌝ }
     ensures { λ r. ⌜ r ≡ wayAt (now (s .entry)) way ⌝ }
