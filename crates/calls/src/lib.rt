@@ -100,7 +100,7 @@ pub fn may_open(book: Book, line: u8, settings: Settings) -> Verdict
 pub fn may_close(book: Book, line: u8, space: usize) -> Verdict
     ensures { λ r. ⌜ r ≡ verdict (closeOrder book line space) ⌝ }
 {
-    let earlier = may_change_mode(book, line);
+    let earlier = open_line_verdict(book, line);
     match earlier {
         Verdict::Refuse(r) => Verdict::Refuse(r),
         Verdict::Pass => {
@@ -113,8 +113,8 @@ pub fn may_close(book: Book, line: u8, space: usize) -> Verdict
     }
 }
 
-// What a mode call asks before its own tests: BOOK, RANGE for the line, NOLINE.
-pub fn may_change_mode(book: Book, line: u8) -> Verdict
+// What closing and the mode calls ask before their own tests: BOOK, RANGE for the line, NOLINE.
+pub fn open_line_verdict(book: Book, line: u8) -> Verdict
     ensures { λ r. ⌜ r ≡ verdict (fitBook book ∷ lineNumber line ∷ isOpen (lineOf book line) ∷ []) ⌝ }
 {
     let earlier = line_verdict(book, line);

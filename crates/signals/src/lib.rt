@@ -34,7 +34,7 @@ pub struct Ticked {
 pub fn hear(book: Book, line: u8, mode: u8, time: u64) -> Heard
     ensures { λ r. ⌜ ((store out : List ℕ) → resultWith (hearSays (r .answer)) (r .book) store out ≡ resultOf (call.mode line (act.hear mode time)) book store out) ⌝ }
 {
-    let verdict = calls::may_change_mode(book, line);
+    let verdict = calls::open_line_verdict(book, line);
     match verdict {
         Verdict::Refuse(r) => Heard {
             book,
@@ -56,7 +56,7 @@ pub fn hear(book: Book, line: u8, mode: u8, time: u64) -> Heard
 pub fn ask(book: Book, line: u8, mode: u8, time: u64) -> Asked
     ensures { λ r. ⌜ ((store out : List ℕ) → resultWith (askSays (r .answer)) (r .book) store out ≡ resultOf (call.mode line (act.ask mode time)) book store out) ⌝ }
 {
-    let verdict = calls::may_change_mode(book, line);
+    let verdict = calls::open_line_verdict(book, line);
     match verdict {
         Verdict::Refuse(r) => Asked {
             book,
@@ -79,7 +79,7 @@ pub fn ask(book: Book, line: u8, mode: u8, time: u64) -> Asked
 pub fn tick(book: Book, line: u8, time: u64) -> Ticked
     ensures { λ r. ⌜ ((store out : List ℕ) → resultWith (tickSays (r .answer)) (r .book) store out ≡ resultOf (call.mode line (act.tick time)) book store out) × Tries (r .answer) ⌝ }
 {
-    let verdict = calls::may_change_mode(book, line);
+    let verdict = calls::open_line_verdict(book, line);
     match verdict {
         Verdict::Refuse(r) => Ticked {
             book,

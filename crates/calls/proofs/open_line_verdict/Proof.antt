@@ -5,8 +5,8 @@ use Rattle.calls.proofs.Stops.{stops, goes-on}
 use mathlib.Core.List.{[], _∷_}
 use mathlib.Core.Path.{refl, sym, _∙_}
 use borrow.Author.Needs.{needs}
-use Rattle.calls.proofs.may_change_mode.Statement.{statement}
-use Rattle.calls.proofs.may_change_mode.Tie as tie
+use Rattle.calls.proofs.open_line_verdict.Statement.{statement}
+use Rattle.calls.proofs.open_line_verdict.Tie as tie
 
 line-verdict-requires : tie.Need-line-verdict-requires
 line-verdict-requires c κs = search needs
@@ -29,8 +29,8 @@ returns-2 c = let a = c .before .before .before .before .before .args in goes-on
 returns-3 : tie.Need-returns-3
 returns-3 c = let a = c .before .before .before .before .before .args in goes-on (fitBook (a .book) ∷ lineNumber (a .line) ∷ []) (isOpen (lineOf (a .book) (a .line)) ∷ []) refl (c .before .before .before .before .line-verdict .ensures) (c .before .before .enum-told .given .1) (simp (← c .before .line .ensures, c .if1 .left))
 
-pub may-change-mode-spec : {M : Type 1} → statement M
-may-change-mode-spec =
+pub open-line-verdict-spec : {M : Type 1} → statement M
+open-line-verdict-spec =
     tie.close
     (tie.spec
     line-verdict-requires
