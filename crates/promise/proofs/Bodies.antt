@@ -38,7 +38,7 @@ use Rattle.calls.specs.Order.{lineFor}
 use Rattle.calls.specs.Parts.{tests, fitBook, lineNumber, closeTests}
 use Rattle.calls.specs.Result.{effect, slipOf}
 use Rattle.gateway.proofs.Slips.{slip-passes}
-use Rattle.promise.specs.Build.{leftBy, ours}
+use Rattle.promise.specs.Build.{leftBy, ourBodies}
 use Rattle.promise.specs.Past.{nothingYet}
 use Rattle.promise.specs.Run.{Gateway, accepts, given, lineAt}
 use Rattle.promise.specs.Ours.{does}
@@ -54,22 +54,22 @@ left-back Pass octets out read ok e =
 left-back (Refuse r) octets out read ok e = absurd (let z : _≡_ {A = ℕ} 0 1 = cc in omega arith)
 
 pub connect-written : (c : Connect) (out : List ℕ) → verdict (body.writeTests c (length out)) ≡ Pass
-    → Back (ours .connectWrite c out) (connectOctets c) (ours .connectRead) (connect.answerOf (connectReading.Says c))
+    → Back (ourBodies .connectWrite c out) (connectOctets c) (ourBodies .connectRead) (connect.answerOf (connectReading.Says c))
 connect-written c out ok =
-    left-back (verdict (body.writeTests c (length out))) (connectOctets c) out (ours .connectRead) ok (ap connect.answerOf (connectBack.round c (length out) ok))
+    left-back (verdict (body.writeTests c (length out))) (connectOctets c) out (ourBodies .connectRead) ok (ap connect.answerOf (connectBack.round c (length out) ok))
 
-pub connect-read : (s : List ℕ) → verdict (connect.readTests s) ≡ Pass → ours .connectRead s ≡ connect.answerOf (connectReading.Says (connectAt s))
+pub connect-read : (s : List ℕ) → verdict (connect.readTests s) ≡ Pass → ourBodies .connectRead s ≡ connect.answerOf (connectReading.Says (connectAt s))
 connect-read s ok = ap (λ (v : Verdict). connect.answerOf (settle v connectReading.Refused (connectReading.Says (connectAt s)))) ok
 
 pub break-written : (c : Break) (out : List ℕ) → verdict (breaks.writeTests c (length out)) ≡ Pass
-    → Back (ours .breakWrite c out) (breakOctets c) (ours .breakRead) (breaks.answerOf (breakReading.Says c))
+    → Back (ourBodies .breakWrite c out) (breakOctets c) (ourBodies .breakRead) (breaks.answerOf (breakReading.Says c))
 break-written c out ok =
-    left-back (verdict (breaks.writeTests c (length out))) (breakOctets c) out (ours .breakRead) ok (ap breaks.answerOf (breakBack.round c (length out) ok))
+    left-back (verdict (breaks.writeTests c (length out))) (breakOctets c) out (ourBodies .breakRead) ok (ap breaks.answerOf (breakBack.round c (length out) ok))
 
-pub break-read : (s : List ℕ) → verdict (breaks.readTests s) ≡ Pass → ours .breakRead s ≡ breaks.answerOf (breakReading.Says (breakAt s))
+pub break-read : (s : List ℕ) → verdict (breaks.readTests s) ≡ Pass → ourBodies .breakRead s ≡ breaks.answerOf (breakReading.Says (breakAt s))
 break-read s ok = ap (λ (v : Verdict). breaks.answerOf (settle v breakReading.Refused (breakReading.Says (breakAt s)))) ok
 
-pub slip-read : (s : List ℕ) → verdict (slip.readTests s) ≡ Pass → ours .slipRead s ≡ slip.answerOf (slipReading.Says (slip.slipAt s))
+pub slip-read : (s : List ℕ) → verdict (slip.readTests s) ≡ Pass → ourBodies .slipRead s ≡ slip.answerOf (slipReading.Says (slip.slipAt s))
 slip-read s ok = ap (λ (v : Verdict). slip.answerOf (settle v slipReading.Refused (slipReading.Says (slip.slipAt s)))) ok
 
 -- any line of a book that BOOK lets pass
@@ -95,6 +95,6 @@ module _ {g : Gateway} {i : ℕ} (r : Ready g i) (out : List ℕ) (space : 12 �
 
   pub slip-written : (accepts (does g (call.closing i) out) ≡ true)
       × (given (does g (call.closing i) out) ≡ slipOctets (slipOf l))
-      × (ours .slipRead (given (does g (call.closing i) out)) ≡ accepted (l .identifier ∷ l .kind ∷ l .receiving1 .next ∷ l .receiving2 .next ∷ bit (ended (l .modes)) ∷ []))
+      × (ourBodies .slipRead (given (does g (call.closing i) out)) ≡ accepted (l .identifier ∷ l .kind ∷ l .receiving1 .next ∷ l .receiving2 .next ∷ bit (ended (l .modes)) ∷ []))
   unfolding slipOf
-  slip-written = (call-accepted g (call.closing i) out close-passes, written, ap (ours .slipRead) written ∙ ap slip.answerOf (slipBack.round (slipOf l) (length out) fitting))
+  slip-written = (call-accepted g (call.closing i) out close-passes, written, ap (ourBodies .slipRead) written ∙ ap slip.answerOf (slipBack.round (slipOf l) (length out) fitting))

@@ -33,13 +33,17 @@ pub record Left : Type 0 where
 abbrev pub octetsLeft : Left → List ℕ
 octetsLeft w = take (getD (w .answer .values) 0 0) (w .out)
 
-pub record Build : Type 0 where
-  pub does : Does
+-- the readers and writers of bodies and slips: a new body is a field here
+pub record Bodies : Type 0 where
   pub connectRead : List ℕ → Answer
   pub connectWrite : Connect → List ℕ → Left
   pub breakRead : List ℕ → Answer
   pub breakWrite : Break → List ℕ → Left
   pub slipRead : List ℕ → Answer
+
+pub record Build : Type 0 where
+  pub does : Does
+  pub bodies : Bodies
 
 -- octets written into an output, or a refusal
 abbrev pub leftBy : Verdict → List ℕ → List ℕ → Left
@@ -48,13 +52,15 @@ leftBy v octets out =
     record { answer = writeSays w; out = contents w octets out }
 
 -- OURS: the definitions that the code is proved to meet, answers as document 01's numbers and values
-abbrev pub ours : Build
-ours =
+abbrev pub ourBodies : Bodies
+ourBodies =
     record {
-      does = resultOf;
       connectRead = λ s. connect.answerOf (connectRead s);
       connectWrite = λ c out. leftBy (verdict (body.writeTests c (length out))) (connectOctets c) out;
       breakRead = λ s. breaks.answerOf (breaks.breakRead s);
       breakWrite = λ b out. leftBy (verdict (breaks.writeTests b (length out))) (breaks.breakOctets b) out;
       slipRead = λ s. slip.answerOf (slip.slipRead s);
     }
+
+abbrev pub ours : Build
+ours = record { does = resultOf; bodies = ourBodies }

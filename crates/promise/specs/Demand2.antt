@@ -97,18 +97,18 @@ Gone m = (m .left ≡ true) × (m .local ≡ modem → ⊥)
 pub record Demand2 (b : Build) : Type 0 where
   -- every body that may be written is, and reads back; every body that may be read says what stands at its places
   pub connect-back : (c : Connect) (out : List ℕ) → verdict (body.writeTests c (length out)) ≡ Pass
-      → Back (b .connectWrite c out) (body.connectOctets c) (b .connectRead) (connect.answerOf (connectReading.Says c))
-  pub connect-read : (s : List ℕ) → verdict (connect.readTests s) ≡ Pass → b .connectRead s ≡ connect.answerOf (connectReading.Says (connectAt s))
+      → Back (b .bodies .connectWrite c out) (body.connectOctets c) (b .bodies .connectRead) (connect.answerOf (connectReading.Says c))
+  pub connect-read : (s : List ℕ) → verdict (connect.readTests s) ≡ Pass → b .bodies .connectRead s ≡ connect.answerOf (connectReading.Says (connectAt s))
   pub break-back : (c : Break) (out : List ℕ) → verdict (breaks.writeTests c (length out)) ≡ Pass
-      → Back (b .breakWrite c out) (breaks.breakOctets c) (b .breakRead) (breaks.answerOf (breakReading.Says c))
-  pub break-read : (s : List ℕ) → verdict (breaks.readTests s) ≡ Pass → b .breakRead s ≡ breaks.answerOf (breakReading.Says (breakAt s))
-  pub slip-read : (s : List ℕ) → verdict (slip.readTests s) ≡ Pass → b .slipRead s ≡ slip.answerOf (slipReading.Says (slip.slipAt s))
+      → Back (b .bodies .breakWrite c out) (breaks.breakOctets c) (b .bodies .breakRead) (breaks.answerOf (breakReading.Says c))
+  pub break-read : (s : List ℕ) → verdict (breaks.readTests s) ≡ Pass → b .bodies .breakRead s ≡ breaks.answerOf (breakReading.Says (breakAt s))
+  pub slip-read : (s : List ℕ) → verdict (slip.readTests s) ≡ Pass → b .bodies .slipRead s ≡ slip.answerOf (slipReading.Says (slip.slipAt s))
   -- "Closing writes a slip", and "Slips are also read back"
   pub slip-back : (g : Gateway) (i : ℕ) → Ready g i → (out : List ℕ) → 12 ≤ length out
       → let l = lineAt g i in
       (accepts (does (b .does) g (call.closing i) out) ≡ true)
       × (given (does (b .does) g (call.closing i) out) ≡ slip.slipOctets (slipOf l))
-      × (b .slipRead (given (does (b .does) g (call.closing i) out))
+      × (b .bodies .slipRead (given (does (b .does) g (call.closing i) out))
       ≡ accepted (l .identifier ∷ l .kind ∷ l .receiving1 .next ∷ l .receiving2 .next ∷ bit (ended (l .modes)) ∷ []))
   -- every message that the line holds is written, and so is an empty packet
   pub sending-back : (g : Gateway) (i : ℕ) → Ready g i → Relays g i → (channel : ℕ) → reliable channel ≡ true → (rank : ℕ) → rank < heldCount (sendingOf (lineAt g i) channel)

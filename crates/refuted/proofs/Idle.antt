@@ -43,12 +43,12 @@ refuser-opens-nothing r d =
     omega (arith, n, number-some r)
 
 -- two bodies cannot both be read from the one: of no build that gives the same octets wherever it writes a BREAK, or a CONNECT
-pub constant-break-fails : (b : Build) (s : List ℕ) → ((c : Break) (out : List ℕ) → b .breakWrite c out .answer .number ≡ 0 → octetsLeft (b .breakWrite c out) ≡ s) → Demand2 b → ⊥
+pub constant-break-fails : (b : Build) (s : List ℕ) → ((c : Break) (out : List ℕ) → b .bodies .breakWrite c out .answer .number ≡ 0 → octetsLeft (b .bodies .breakWrite c out) ≡ s) → Demand2 b → ⊥
 unfolding breakFits
 constant-break-fails b s same d =
     let one = d .break-back (from 0) two refl in
     let other = d .break-back (from 1) two refl in
-    let e = sym (one .reads) ∙ ap (b .breakRead) (same (from 0) two (one .written) ∙ sym (same (from 1) two (other .written))) ∙ other .reads in
+    let e = sym (one .reads) ∙ ap (b .bodies .breakRead) (same (from 0) two (one .written) ∙ sym (same (from 1) two (other .written))) ∙ other .reads in
     let n : _≡_ {A = ℕ} 0 1 = ap (λ (a : Answer). getD (a .values) 0 0) e in
     omega (arith, n)
 
@@ -69,13 +69,13 @@ plain modulation =
       chardyn = false;
     }
 
-pub constant-connect-fails : (b : Build) (s : List ℕ) → ((c : Connect) (out : List ℕ) → b .connectWrite c out .answer .number ≡ 0 → octetsLeft (b .connectWrite c out) ≡ s) → Demand2 b → ⊥
+pub constant-connect-fails : (b : Build) (s : List ℕ) → ((c : Connect) (out : List ℕ) → b .bodies .connectWrite c out .answer .number ≡ 0 → octetsLeft (b .bodies .connectWrite c out) ≡ s) → Demand2 b → ⊥
 unfolding numbersFit sizesFit connectOctets sizeFields
 constant-connect-fails b s same d =
     let eight : List ℕ = replicate 8 0 in
     let one = d .connect-back (plain 0) eight refl in
     let other = d .connect-back (plain 1) eight refl in
-    let e = sym (one .reads) ∙ ap (b .connectRead) (same (plain 0) eight (one .written) ∙ sym (same (plain 1) eight (other .written))) ∙ other .reads in
+    let e = sym (one .reads) ∙ ap (b .bodies .connectRead) (same (plain 0) eight (one .written) ∙ sym (same (plain 1) eight (other .written))) ∙ other .reads in
     let n : _≡_ {A = ℕ} 0 1 = ap (λ (a : Answer). getD (a .values) 0 0) e in
     omega (arith, n)
 

@@ -15,13 +15,12 @@ use Rattle.book.specs.declared.Book.{Book}
 use Rattle.calls.specs.Call as call
 use Rattle.calls.specs.Order.{lineFor}
 use Rattle.calls.specs.Result.{CallResult, resultWith, resultOf}
-use Rattle.promise.specs.Build.{Does, Left, Build, ours}
+use Rattle.promise.specs.Build.{Does, Left, Bodies, Build, ourBodies}
 
 -- "one refusing everything", with whatever number
-abbrev pub refuser : Refusal → Build
-refuser r =
+abbrev refusedBodies : Refusal → Bodies
+refusedBodies r =
     record {
-      does = λ c b store out. resultWith (refused r) b store out;
       connectRead = λ s. refused r;
       connectWrite = λ c out. record { answer = refused r; out = out };
       breakRead = λ s. refused r;
@@ -29,16 +28,29 @@ refuser r =
       slipRead = λ s. refused r;
     }
 
+abbrev pub refuser : Refusal → Build
+refuser r = record { does = λ c b store out. resultWith (refused r) b store out; bodies = refusedBodies r }
+
 -- "one giving a constant .. body": every body written is s
+abbrev written : List ℕ → List ℕ → Left
+written s out = record { answer = accepted (length s ∷ []); out = s ++ drop (length s) out }
+
+abbrev oneBody : List ℕ → Bodies
+oneBody s =
+    record {
+      connectRead = ourBodies .connectRead;
+      connectWrite = λ c. written s;
+      breakRead = ourBodies .breakRead;
+      breakWrite = λ c. written s;
+      slipRead = ourBodies .slipRead;
+    }
+
 abbrev pub constantBody : List ℕ → Build
-constantBody s =
-    let w : List ℕ → Left = λ out. record { answer = accepted (length s ∷ []); out = s ++ drop (length s) out } in
-    record { does = resultOf; connectRead = ours .connectRead; connectWrite = λ c out. w out; breakRead = ours .breakRead; breakWrite = λ c out. w out; slipRead = ours .slipRead }
+constantBody s = record { does = resultOf; bodies = oneBody s }
 
 -- ours, but for what the calls do
 abbrev pub doing : Does → Build
-doing f =
-    record { does = f; connectRead = ours .connectRead; connectWrite = ours .connectWrite; breakRead = ours .breakRead; breakWrite = ours .breakWrite; slipRead = ours .slipRead }
+doing f = record { does = f; bodies = ourBodies }
 
 -- what a packet that arrives does
 abbrev pub Arrives : Type 0
