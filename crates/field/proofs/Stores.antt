@@ -2,13 +2,16 @@
 -- Assumes nothing.
 use mathlib.Core.Path.{_≡_, refl, sym, ap, _∙_}
 use mathlib.Core.List.{List, [], _∷_, _++_}
-use Prim.Native.Nat.{ℕ, suc, _+_, _-_, _*_, _/_, _%_, _^_, _≤_, _<_}
+use mathlib.Core.Bool.{Bool, true, false}
+use Prim.Native.Nat.{ℕ, suc, _+_, _-_, _*_, _/_, _%_, _^_, _≤_, _<_, min}
 use native.Mathlib.Nat.{add-zero, zero-add, add-suc, suc-add, le-of-lt}
 use native.Mathlib.Numerals.{add-one}
 use native.Mathlib.Omega.{arith}
-use lib.ListN.{length, set, getD, take, drop}
-use lib.Seq.{sets, sets-eq, set-out, take-suc, length-take-le}
+use lib.Dec.{leb}
+use lib.ListN.{length, set, getD, take, drop, take-append-drop}
+use lib.Seq.{sets, sets-eq, length-sets, set-out, take-suc, take-length, length-take-le}
 use lib.Bits.{bitAnd, and-mask}
+use borrow.Author.Tests.{leb-true, leb-false}
 use Rattle.ground.specs.Refusal.{Test, verdict}
 use Rattle.ground.specs.Answer.{Writes}
 use Rattle.ground.specs.declared.Verdict.{Verdict}
@@ -35,6 +38,22 @@ pub octets-on : (l : List ℕ) (i : ℕ) (vs : List ℕ) (k : ℕ) → k < lengt
 octets-on l i vs k h =
     sym (rw (add-one k, take-suc vs k 0 h)
     (sets-append (take k vs) (getD vs k 0 ∷ []) l i ∙ ap (λ (n : ℕ). set (sets l i (take k vs)) (i + n) (getD vs k 0)) (length-take-le k vs (le-of-lt h))))
+
+-- what has no place is not stored: a run may be cut to the n that have one
+pub sets-cut : (l : List ℕ) (i n : ℕ) (vs : List ℕ) → i ≤ length l → n ≡ min (length vs) (length l - i) → sets l i (take n vs) ≡ sets l i vs
+sets-cut l i n vs h e = go (leb (length vs) n) refl
+  where
+    go : (b : Bool) → leb (length vs) n ≡ b → sets l i (take n vs) ≡ sets l i vs
+    go true t =
+        let k : length vs ≤ n = leb-true _ _ t in
+        let q : n ≡ length vs = omega arith in
+        ap (λ (m : ℕ). sets l i (take m vs)) q ∙ ap (sets l i) (take-length vs)
+    go false f =
+        let k : n < length vs = leb-false _ _ f in
+        let m : length (take n vs) ≡ n = length-take-le n vs (le-of-lt k) in
+        let r : length (sets l i (take n vs)) ≤ i + length (take n vs) = omega (arith, length-sets l i (take n vs)) in
+        sym (sets-out (sets l i (take n vs)) (i + length (take n vs)) (drop n vs) r) ∙ sym (sets-append (take n vs) (drop n vs) l i)
+        ∙ ap (sets l i) (take-append-drop n vs)
 
 -- a word as two octets, and a number of 32 bits as two words, as a writer stores them
 pub word-stored : (l : List ℕ) (i x : ℕ) {l₁ l₂ : List ℕ} → x < 2 ^ 16 → l₁ ≡ set l i (x / 2 ^ 8) → l₂ ≡ set l₁ (i + 1) (bitAnd x (2 ^ 8 - 1)) → l₂ ≡ sets l i (octets 2 x)

@@ -1,7 +1,7 @@
 // Octets and the numbers that lie in them, most significant first (RULES 1.7): read and written by masks and shifts.
 // Every function here is total. An octet past the end reads as 0, and one that has no place is not written.
 ghost use mathlib.Core.Path.{_≡_};
-ghost use Prim.Native.Nat.{_*_};
+ghost use Prim.Native.Nat.{_*_, min};
 ghost use lib.ListN.{getD, set};
 ghost use lib.Seq.{sets};
 ghost use Rattle.field.specs.Bits.{bitsAt};
@@ -81,16 +81,24 @@ pub fn put_words(out: &mut [u8], words: &[u16])
     }
 }
 
-// Stores octets one after the other, from `at` on.
+// The lesser of two numbers.
+fn lesser(a: usize, b: usize) -> usize
+    ensures { λ r. ⌜ r ≡ min a b ⌝ }
+{
+    if a < b { a } else { b }
+}
+
+// Stores octets one after the other, from `at` on. How many have a place is worked out once, before the first is stored.
 pub fn put_octets(out: &mut [u8], at: usize, src: &[u8])
     ensures { λ r. ⌜ now (out .exit) ≡ sets (now (out .entry)) at (now (src .entry)) ⌝ }
 {
     if out.len() <= at {
         return;
     }
+    let most = lesser(src.len(), out.len() - at);
     let mut i = 0;
-    while i < src.len() {
-        put_octet(out, at + i, src[i]);
+    while i < most {
+        out[at + i] = src[i];
         i += 1;
     }
 }

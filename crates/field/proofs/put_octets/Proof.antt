@@ -1,66 +1,70 @@
 use borrow.Author.Needs.{needs}
 use Prim.Native.Nat.{ℕ, _≤_, _-_, _+_}
 use mathlib.Core.List.{List}
-use mathlib.Core.Path.{_≡_, sym, ap, _∙_}
+use mathlib.Core.Path.{_≡_, refl, sym, ap, _∙_}
 use native.Mathlib.Omega.{arith}
 use lib.ListN.{length, take, getD, set, length-set}
-use lib.Seq.{sets, take-length}
+use lib.Seq.{sets}
 use denote.Ref.{now}
-use Rattle.field.proofs.Stores.{sets-out, octets-on}
+use Rattle.field.proofs.Stores.{sets-out, sets-cut, octets-on}
 use Rattle.field.proofs.put_octets.Statement.{statement}
 use Rattle.field.proofs.put_octets.Tie as tie
 
 abbrev Inv-loop : tie.InvT-loop
-Inv-loop out₀ at src i₀ out i = (i ≤ length src) × (length out ≡ length out₀) × (out ≡ sets out₀ at (take i src))
+Inv-loop out₀ at src most i₀ out i = (i ≤ most) × (length out ≡ length out₀) × (out ≡ sets out₀ at (take i src))
 
 abbrev μ-loop : tie.MeasureT-loop
-μ-loop out₀ at src i₀ out i = length src - i
+μ-loop out₀ at src most i₀ out i = most - i
 
 returns : tie.Need-returns Inv-loop μ-loop
 returns c =
     let at = c .before .before .before in
     sym (sets-out (now (at .args .out)) (at .args .at) (now (at .args .src)) (c .if1 .taken))
 
+sub-lesser : tie.Need-sub-lesser Inv-loop μ-loop
+sub-lesser c = search needs
+
+lesser-requires : tie.Need-lesser-requires Inv-loop μ-loop
+lesser-requires c κs = search needs
+
 loop-holds : tie.Need-loop-holds Inv-loop μ-loop
 loop-holds c = search needs
 
-add-put-octet : tie.Need-add-put-octet Inv-loop μ-loop
-add-put-octet c = search needs
+shared-slice-read-out : tie.Need-shared-slice-read-out Inv-loop μ-loop
+shared-slice-read-out c = omega arith
 
-shared-slice-read-put-octet : tie.Need-shared-slice-read-put-octet Inv-loop μ-loop
-shared-slice-read-put-octet c = search needs
+add-out : tie.Need-add-out Inv-loop μ-loop
+add-out c = omega arith
 
-put-octet-requires : tie.Need-put-octet-requires Inv-loop μ-loop
-put-octet-requires c κs = search needs
+slice-write-out : tie.Need-slice-write-out Inv-loop μ-loop
+slice-write-out c = omega arith
 
 add-i : tie.Need-add-i Inv-loop μ-loop
-add-i c = search needs
+add-i c = omega arith
 
 loop-less : tie.Need-loop-less Inv-loop μ-loop
-loop-less c = search needs
+loop-less c = omega arith
 
 loop-again : tie.Need-loop-again Inv-loop μ-loop
 loop-again c =
-    let at = c .before .before .before .before .before .before in
-    let start = at .before .before .before .before in
-    let l : List ℕ = now (start .args .out) in
-    let vs : List ℕ = now (start .args .src) in
-    let i : ℕ = at .loop .i in
-    let e = c .before .before .put-octet .ensures in
-    let inv = at .loop .inv in
-    (search needs, ap length e ∙ length-set (at .loop .out) (start .args .at + i) (getD vs i 0) ∙ inv .1, e ∙ ap (λ (m : List ℕ). set m (start .args .at + i) (getD vs i 0)) (inv .2) ∙ octets-on l (start .args .at) vs i (search needs))
+    let l = c .before .before .loop in
+    let a = c .before .before .before .before .before .before .before .args in
+    let vs : List ℕ = now (a .src) in (
+      omega arith,
+      simp length-set (l .inv .1),
+      ap (λ (m : List ℕ). set m (a .at + l .i) (getD vs (l .i) 0)) (l .inv .2) ∙ octets-on (now (a .out)) (a .at) vs (l .i) (omega arith),
+    )
 
 same-length : tie.Need-same-length Inv-loop μ-loop
 same-length c = search needs
 
 returns-2 : tie.Need-returns-2 Inv-loop μ-loop
 returns-2 c =
-    let at = c .before in
-    let start = at .before .before .before .before in
-    let vs : List ℕ = now (start .args .src) in
-    let inv = at .loop .inv in
-    let e : at .loop .i ≡ length vs = omega arith in
-    inv .2 ∙ ap (λ (n : ℕ). sets (now (start .args .out)) (start .args .at) (take n vs)) e ∙ ap (sets (now (start .args .out)) (start .args .at)) (take-length vs)
+    let l = c .before .loop in
+    let r = c .before .before in
+    let a = c .before .before .before .before .before .before .args in
+    let e : l .i ≡ r .lesser .result = omega arith in
+    l .inv .2 ∙ sets-cut (now (a .out)) (a .at) (l .i) (now (a .src)) (omega arith) (e ∙ r .lesser .ensures)
 
 pub put-octets-spec : {M : Type 1} → statement M
 put-octets-spec =
@@ -69,10 +73,12 @@ put-octets-spec =
     Inv-loop
     μ-loop
     returns
+    sub-lesser
+    lesser-requires
     loop-holds
-    add-put-octet
-    shared-slice-read-put-octet
-    put-octet-requires
+    shared-slice-read-out
+    add-out
+    slice-write-out
     add-i
     loop-less
     loop-again
