@@ -1,2 +1,3 @@
 pub mod Lists
+mod Marks
 pub mod Steps

@@ -1,6 +1,6 @@
 -- The owed acknowledgements of a line as a list of words (RULES 4.11), oldest first (RULES 5.7).
 -- Assumes nothing.
-use Prim.Native.Nat.{ℕ, min}
+use Prim.Native.Nat.{ℕ, _+_, _*_, _/_, _%_, _^_, min}
 use mathlib.Core.Bool.{Bool, true, false, not, _&&_, _||_}
 use mathlib.Core.List.{List, [], _∷_, _++_}
 use lib.Dec.{eqb, leb}
@@ -60,3 +60,8 @@ allSpans (x ∷ l) = served x && allSpans l
 -- What BOOK asks: not "over 64 owed numbers" (RULES 15.16), "or one twice" (RULES 15.17), and each of channel 1 or 2 (RULES 15.18).
 unfoldable pub owedFits : Owed → Bool
 owedFits o = leb (o .count) 64 && (allSpans (owedOf o) && noTwice (owedOf o))
+
+-- A device of the search for an entry that stands there twice: 128 marks, 64 for each channel, one for the low six bits of a number. What BOOK
+-- asks does not rest on it.
+abbrev pub markOf : ℕ → ℕ
+markOf word = word / 2 ^ 15 * 64 + word % 64

@@ -1,10 +1,11 @@
 // A line's owed acknowledgements, by value: one list for both channels (RULES 4.11), in order of entry (RULES 5.7).
 // An entry is a word of 16 bits, channel (2) and number (14), as a packet carries it. `writing` puts them into packets.
 ghost use mathlib.Core.Path.{_≡_};
+ghost use mathlib.Core.Bool.{false};
 ghost use Prim.Native.Nat.{_≤_, _<_};
 ghost use lib.ListN.{getD, take};
 ghost use Rattle.field.specs.Word.{wordOf};
-ghost use Rattle.owed.specs.Owed.{freshOwed, owedOf, member, entered, firstThree, withoutThree, owedFits};
+ghost use Rattle.owed.specs.Owed.{freshOwed, owedOf, member, entered, firstThree, withoutThree, owedFits, markOf};
 use packet::Acks;
 
 pub struct Owed {
@@ -41,6 +42,17 @@ impl Owed {
             i += 1;
         }
         false
+    }
+
+    // Is the word among the first n entries? They are looked at only where it may be.
+    fn found(self, n: usize, word: u16, perhaps: bool) -> bool
+        requires { ⌜ (n ≤ 64) × (perhaps ≡ false → member word (take n (self .numbers)) ≡ false) ⌝ }
+        ensures { λ r. ⌜ r ≡ member word (take n (self .numbers)) ⌝ }
+    {
+        if !perhaps {
+            return false;
+        }
+        self.among(n, word)
     }
 
     // The word enters the list unless it is there already or 64 are there.
@@ -115,27 +127,40 @@ impl Owed {
         next
     }
 
-    // Is each entry of channel 1 or 2, and none there twice?
+    // Is each entry of channel 1 or 2, and none there twice? Each leaves a mark, and only one that finds a mark is searched for.
     pub fn fits(self) -> bool
         ensures { λ r. ⌜ r ≡ owedFits self ⌝ }
     {
         if Owed::MOST < self.count {
             return false;
         }
+        if self.count == 0 {
+            return true;
+        }
         let n = self.count as usize;
+        let mut marks = [0u8; 128];
         let mut i = 0;
         while i < n {
             let word = self.numbers[i];
             if !field::served(word) {
                 return false;
             }
-            if self.among(i, word) {
+            let at = mark(word);
+            if self.found(i, word, marks[at] == 1) {
                 return false;
             }
+            marks[at] = 1;
             i += 1;
         }
         true
     }
+}
+
+// Which of the 128 marks an entry leaves.
+fn mark(word: u16) -> usize
+    ensures { λ r. ⌜ (r ≡ markOf word) × (r < 128) ⌝ }
+{
+    (word >> 15) as usize * 64 + (word & 63) as usize
 }
 
 // The word of a channel and a number.
