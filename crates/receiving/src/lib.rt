@@ -142,6 +142,9 @@ impl Receiving {
         if window <= self.origin {
             return false;
         }
+        if self.stored.empty() {
+            return true;
+        }
         if !self.stored.within(window) {
             return false;
         }

@@ -194,6 +194,9 @@ impl Sending {
         if window <= self.origin {
             return false;
         }
+        if self.unacked.empty() {
+            return true;
+        }
         if !self.unacked.within(n) {
             return false;
         }
