@@ -16,7 +16,7 @@ use Rattle.ground.proofs.Picks.{pick-by, pick-lt, both-true, each, together, cl
 use Rattle.ground.proofs.Verdicts.{passed}
 use Rattle.channel.specs.Channel.{cap}
 use Rattle.channel.specs.Distance.{dist}
-use Rattle.places.specs.Places.{maskOf, widest, bitOf}
+use Rattle.places.specs.Places.{maskOf, setOf, widest, bitOf}
 use Rattle.receiving.specs.Receiving.{emptiedReceiving, ReceivingOk, freshReceiving, arrivalOf, arrivedAs, storedAt, handTests, handedOut, receivingTests, receivingFits}
 use Rattle.sending.specs.Sending.{SendingOk, freshSending, emptiedSending, underWay, takeTests, tookOne, movedBy, heardBase, droppedAt, ackedBy, sendingTests, sendingFits}
 use Rattle.channel.specs.Sizes.{sizeFits}
@@ -24,6 +24,7 @@ use Rattle.receiving.specs.declared.Arrival.{Arrival}
 use Rattle.receiving.specs.declared.Receiving.{Receiving}
 use Rattle.sending.specs.declared.Sending.{Sending}
 use Rattle.places.proofs.Bits.{bit-past, within-lt, lt-within, with-lt, without-le}
+use Rattle.places.proofs.Masks.{mask-set}
 use Rattle.channel.proofs.Distances.{place-lt}
 use Rattle.flow.proofs.Sized.{Sized, sizes-each, sizes-all, sized-with, sized-without, sized-dropped}
 
@@ -96,7 +97,7 @@ module _ {w : ℕ} (s : Sending) (k : SendingOk w s) where
         ordered = omega arith;
         windowed = omega arith;
         placed = k .placed;
-        masked = rw e (with-lt (maskOf (s .unacked)) (underWay s) (underWay s + 1) more (omega arith));
+        masked = rw (mask-set, e) (with-lt (maskOf (s .unacked)) (underWay s) (underWay s + 1) more (omega arith));
         narrow = k .narrow;
       }
 
@@ -108,7 +109,7 @@ module _ {w : ℕ} (s : Sending) (k : SendingOk w s) where
         ordered = omega arith;
         windowed = omega arith;
         placed = place-lt w (s .origin) d (k .placed) (omega arith);
-        masked = shr-lt (s .taken - (s .base + d)) d (rw e at (k .masked));
+        masked = rw mask-set (shr-lt (s .taken - (s .base + d)) d (rw e at (k .masked)));
         narrow = k .narrow;
       }
 
@@ -119,7 +120,7 @@ module _ {w : ℕ} (s : Sending) (k : SendingOk w s) where
         ordered = k .ordered;
         windowed = k .windowed;
         placed = k .placed;
-        masked = lt-of-le-of-lt (without-le (maskOf (s .unacked)) d) (k .masked);
+        masked = rw mask-set (lt-of-le-of-lt (without-le (maskOf (s .unacked)) d) (k .masked));
         narrow = k .narrow;
       }
 
@@ -127,7 +128,7 @@ module _ {w : ℕ} (s : Sending) (k : SendingOk w s) where
 module _ {w : ℕ} (r : Receiving) (k : ReceivingOk w r) where
   pub stored-ok : (d size : ℕ) → d < w → ReceivingOk w (storedAt w r d size)
   unfolding storedAt
-  stored-ok d size q = record { capped = k .capped; placed = k .placed; masked = with-lt (maskOf (r .stored)) d w (k .masked) q; narrow = k .narrow }
+  stored-ok d size q = record { capped = k .capped; placed = k .placed; masked = rw mask-set (with-lt (maskOf (r .stored)) d w (k .masked) q); narrow = k .narrow }
 
   pub handed-ok : r .next < cap → ReceivingOk w (handedOut w r)
   unfolding handedOut
@@ -135,15 +136,15 @@ module _ {w : ℕ} (r : Receiving) (k : ReceivingOk w r) where
       record {
         capped = omega arith;
         placed = place-lt w (r .origin) 1 (k .placed) (omega arith);
-        masked = lt-of-le-of-lt (shr-le (maskOf (r .stored)) 1) (k .masked);
+        masked = rw mask-set (lt-of-le-of-lt (shr-le (maskOf (r .stored)) 1) (k .masked));
         narrow = k .narrow;
       }
 
 -- Every step keeps what BOOK asks.
 module _ (w z : ℕ) (narrow : w ≤ widest) where
   -- where nothing is there, no size is asked after
-  none-sized : (sizes : List ℕ) (origin : ℕ) → Sized w z sizes 0 origin
-  none-sized sizes origin i l b = clash (sym (bit-past 0 0 i (pow-pos 0) (omega arith)) ∙ b)
+  none-sized : (sizes : List ℕ) (origin : ℕ) → Sized w z sizes (maskOf (setOf 0)) origin
+  none-sized sizes origin = rw mask-set (λ i l b. clash (sym (bit-past 0 0 i (pow-pos 0) (omega arith)) ∙ b))
 
   module _ (s : Sending) (t : sendingFits w z s ≡ true) where
     ok : SendingOk w s
@@ -159,7 +160,7 @@ module _ (w z : ℕ) (narrow : w ≤ widest) where
         let p = passed (takeTests w s) v in
         let q : underWay s < w = ltb-true _ _ (p .1 .0) in
         sending-fits w z (tookOne w s size) (took-ok s ok size (ltb-true _ _ (p .0)) q)
-        (sized-with w z (s .sizes) (maskOf (s .unacked)) (s .origin) sized (ok .placed) (underWay s) size q long f)
+        (rw mask-set (sized-with w z (s .sizes) (maskOf (s .unacked)) (s .origin) sized (ok .placed) (underWay s) size q long f))
 
     pub heard-keeps : (b : ℕ) → sendingFits w z (heardBase w s b) ≡ true
     unfolding heardBase
@@ -168,7 +169,7 @@ module _ (w z : ℕ) (narrow : w ≤ widest) where
         pick-by (λ u. sendingFits w z u ≡ true) (ltb 0 d && leb d (underWay s))
         (λ e. let q : d ≤ underWay s = leb-true _ _ (both-true (ltb 0 d) _ e .1) in
         sending-fits w z (movedBy w s d) (moved-ok s ok d q)
-        (sized-dropped w z (s .sizes) (maskOf (s .unacked)) (s .origin) sized (ok .placed) d (lt-of-lt-of-le (ok .masked) (pow-mono (ok .windowed)))))
+        (rw mask-set (sized-dropped w z (s .sizes) (maskOf (s .unacked)) (s .origin) sized (ok .placed) d (lt-of-lt-of-le (ok .masked) (pow-mono (ok .windowed))))))
         (λ e. t)
 
     pub acked-keeps : (n : ℕ) → sendingFits w z (ackedBy s n) ≡ true
@@ -176,14 +177,14 @@ module _ (w z : ℕ) (narrow : w ≤ widest) where
     acked-keeps n =
         let d = dist n (s .base) in
         pick-by (λ u. sendingFits w z u ≡ true) (ltb d (underWay s))
-        (λ e. sending-fits w z (droppedAt s d) (dropped-ok s ok d) (sized-without w z (s .sizes) (maskOf (s .unacked)) (s .origin) sized (ok .placed) d))
+        (λ e. sending-fits w z (droppedAt s d) (dropped-ok s ok d) (rw mask-set (sized-without w z (s .sizes) (maskOf (s .unacked)) (s .origin) sized (ok .placed) d)))
         (λ e. t)
 
     pub emptied-keeps : sendingFits w z (emptiedSending s) ≡ true
     unfolding emptiedSending
     emptied-keeps =
         sending-fits w z (emptiedSending s)
-        (record { capped = ok .capped; ordered = ok .ordered; windowed = ok .windowed; placed = ok .placed; masked = pow-pos (s .taken - s .base); narrow = narrow })
+        (record { capped = ok .capped; ordered = ok .ordered; windowed = ok .windowed; placed = ok .placed; masked = rw mask-set (pow-pos (s .taken - s .base)); narrow = narrow })
         (none-sized (s .sizes) (s .origin))
 
   module _ (r : Receiving) (t : receivingFits w z r ≡ true) where
@@ -198,26 +199,26 @@ module _ (w z : ℕ) (narrow : w ≤ widest) where
         pick-lt (λ (a : Arrival). receivingFits w z (arrivedAs w r a size) ≡ true) d w
         (λ q. pick-by (λ (a : Arrival). receivingFits w z (arrivedAs w r a size) ≡ true) (bitOf (maskOf (r .stored)) d) (λ e. t)
         (λ e. receiving-fits w z (storedAt w r d size) (stored-ok r okay d size q)
-        (sized-with w z (r .sizes) (maskOf (r .stored)) (r .origin) (receiving-sized w z r t) (okay .placed) d size q long f)))
+        (rw mask-set (sized-with w z (r .sizes) (maskOf (r .stored)) (r .origin) (receiving-sized w z r t) (okay .placed) d size q long f))))
         (λ q. t)
 
     pub handed-keeps : verdict (handTests r) ≡ Pass → receivingFits w z (handedOut w r) ≡ true
     unfolding handedOut
     handed-keeps v =
         receiving-fits w z (handedOut w r) (handed-ok r okay (ltb-true _ _ (passed (handTests r) v .0)))
-        (sized-dropped w z (r .sizes) (maskOf (r .stored)) (r .origin) (receiving-sized w z r t) (okay .placed) 1 (okay .masked))
+        (rw mask-set (sized-dropped w z (r .sizes) (maskOf (r .stored)) (r .origin) (receiving-sized w z r t) (okay .placed) 1 (okay .masked)))
 
     pub cleared-keeps : receivingFits w z (emptiedReceiving r) ≡ true
     unfolding emptiedReceiving
-    cleared-keeps = receiving-fits w z (emptiedReceiving r) (record { capped = okay .capped; placed = okay .placed; masked = pow-pos w; narrow = narrow }) (none-sized (r .sizes) (r .origin))
+    cleared-keeps = receiving-fits w z (emptiedReceiving r) (record { capped = okay .capped; placed = okay .placed; masked = rw mask-set (pow-pos w); narrow = narrow }) (none-sized (r .sizes) (r .origin))
 
   -- and a fresh side meets it
   pub fresh-sending : 0 < w → sendingFits w z freshSending ≡ true
   fresh-sending p =
-      sending-fits w z freshSending (record { capped = omega arith; ordered = omega arith; windowed = omega arith; placed = p; masked = pow-pos 0; narrow = narrow })
+      sending-fits w z freshSending (record { capped = omega arith; ordered = omega arith; windowed = omega arith; placed = p; masked = rw mask-set (pow-pos 0); narrow = narrow })
       (none-sized (freshSending .sizes) 0)
 
   pub fresh-receiving : 0 < w → receivingFits w z freshReceiving ≡ true
   fresh-receiving p =
-      receiving-fits w z freshReceiving (record { capped = omega arith; placed = p; masked = pow-pos w; narrow = narrow })
+      receiving-fits w z freshReceiving (record { capped = omega arith; placed = p; masked = rw mask-set (pow-pos w); narrow = narrow })
       (none-sized (freshReceiving .sizes) 0)

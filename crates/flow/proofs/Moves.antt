@@ -26,6 +26,7 @@ use Rattle.receiving.specs.declared.Arrival.{Arrival}
 use Rattle.receiving.specs.declared.Receiving.{Receiving}
 use Rattle.sending.specs.declared.Sending.{Sending}
 use Rattle.places.proofs.Bits.{with-lt}
+use Rattle.places.proofs.Masks.{mask-set}
 use Rattle.channel.proofs.Distances.{dist-up, dist-down}
 use Rattle.flow.proofs.Flows.{firstStays-old}
 use Rattle.flow.proofs.Messages.{message-none, message-past, message-full, message-without, message-kept, message-new, message-old, message-moved}
@@ -61,9 +62,9 @@ module _ (w : ℕ) (slot : Slots) (s : Sending) (k : SendingOk w s) where
       record {
         count = add-one (s .taken);
         base = refl;
-        new = message-new w slot (s .sizes) (maskOf (s .unacked)) (s .origin) (k .placed) after (underWay s) x q u long;
-        old = λ n b c. message-old w slot (s .sizes) (maskOf (s .unacked)) (s .origin) (k .placed) after (underWay s) x q u (n - s .base)
-            (omega (arith, k .ordered)) (omega (arith, k .ordered));
+        new = rw mask-set (message-new w slot (s .sizes) (maskOf (s .unacked)) (s .origin) (k .placed) after (underWay s) x q u long);
+        old = λ n b c. rw mask-set (message-old w slot (s .sizes) (maskOf (s .unacked)) (s .origin) (k .placed) after (underWay s) x q u (n - s .base)
+            (omega (arith, k .ordered)) (omega (arith, k .ordered)));
       }
 
   module _ (stale : ℕ) (wide : w + stale ≤ modulus) where
@@ -72,9 +73,9 @@ module _ (w : ℕ) (slot : Slots) (s : Sending) (k : SendingOk w s) where
         record {
           count = refl;
           base = omega arith;
-          old = λ n c q. message-moved w slot (s .sizes) (maskOf (s .unacked)) (s .origin) (k .placed) (b - s .base)
+          old = λ n c q. rw mask-set (message-moved w slot (s .sizes) (maskOf (s .unacked)) (s .origin) (k .placed) (b - s .base)
               (n - (s .base + (b - s .base))) mask-lt
-              ∙ ap (messageOf w slot (s .sizes) (maskOf (s .unacked)) (s .origin)) (omega arith);
+              ∙ ap (messageOf w slot (s .sizes) (maskOf (s .unacked)) (s .origin)) (omega arith));
         }
 
     stays : (b : ℕ) → b ≤ s .base → BaseMove (sends w slot s) (sends w slot s) b
@@ -116,8 +117,8 @@ module _ (w : ℕ) (slot : Slots) (s : Sending) (k : SendingOk w s) where
             rw e (record {
               count = refl;
               base = refl;
-              gone = λ c q. message-without w slot (s .sizes) (maskOf (s .unacked)) (s .origin) (n - s .base);
-              old = λ m c q d. message-kept w slot (s .sizes) (maskOf (s .unacked)) (s .origin) (n - s .base) (m - s .base) (omega arith);
+              gone = λ c q. rw mask-set (message-without w slot (s .sizes) (maskOf (s .unacked)) (s .origin) (n - s .base));
+              old = λ m c q d. rw mask-set (message-kept w slot (s .sizes) (maskOf (s .unacked)) (s .origin) (n - s .base) (m - s .base) (omega arith));
             })
 
         kept : underWay s ≤ dist n (s .base) → AckMove (sends w slot s) (sends w slot s) n
@@ -137,8 +138,8 @@ module _ (w : ℕ) (slot : Slots) (r : Receiving) (k : ReceivingOk w r) where
   handed-moves =
       record {
         next = add-one (r .next);
-        old = λ m l. message-moved w slot (r .sizes) (maskOf (r .stored)) (r .origin) (k .placed) 1 (m - (r .next + 1)) (k .masked)
-            ∙ ap (messageOf w slot (r .sizes) (maskOf (r .stored)) (r .origin)) (omega arith);
+        old = λ m l. rw mask-set (message-moved w slot (r .sizes) (maskOf (r .stored)) (r .origin) (k .placed) 1 (m - (r .next + 1)) (k .masked)
+            ∙ ap (messageOf w slot (r .sizes) (maskOf (r .stored)) (r .origin)) (omega arith));
       }
 
   -- a message that is stored, c past R
@@ -148,10 +149,10 @@ module _ (w : ℕ) (slot : Slots) (r : Receiving) (k : ReceivingOk w r) where
   new-moves after n c x e q t long u =
       record {
         next = refl;
-        here = λ b. ap (messageOf w after (storedAt w r c (length x) .sizes) (withBit m c) (r .origin)) back
+        here = λ b. rw mask-set (ap (messageOf w after (storedAt w r c (length x) .sizes) (withBit m c) (r .origin)) back
             ∙ message-new w slot (r .sizes) m (r .origin) (k .placed) after c x q u long
             ∙ ap (λ (y : Message). firstStays y x)
-            (sym (ap (messageOf w slot (r .sizes) m (r .origin)) back ∙ message-none w slot (r .sizes) m (r .origin) c t));
+            (sym (ap (messageOf w slot (r .sizes) m (r .origin)) back ∙ message-none w slot (r .sizes) m (r .origin) c t)));
         old = λ j b d. go j b d (decLt (j - r .next) w);
       }
     where
@@ -163,10 +164,10 @@ module _ (w : ℕ) (slot : Slots) (r : Receiving) (k : ReceivingOk w r) where
 
       go : (j : ℕ) → r .next ≤ j → j ≢ n → Dec (j - r .next < w) → receives w after
           (storedAt w r c (length x)) .stored j ≡ receives w slot r .stored j
-      go j b d (yes l) = message-old w slot (r .sizes) m (r .origin) (k .placed) after c x q u (j - r .next) l (omega arith)
+      go j b d (yes l) = rw mask-set (message-old w slot (r .sizes) m (r .origin) (k .placed) after c x q u (j - r .next) l (omega arith))
       go j b d (no l) =
-          message-past w after (storedAt w r c (length x) .sizes) (withBit m c) (r .origin) (j - r .next) (with-lt m c w (k .masked) q) (omega arith)
-          ∙ sym (message-past w slot (r .sizes) m (r .origin) (j - r .next) (k .masked) (omega arith))
+          rw mask-set (message-past w after (storedAt w r c (length x) .sizes) (withBit m c) (r .origin) (j - r .next) (with-lt m c w (k .masked) q) (omega arith)
+          ∙ sym (message-past w slot (r .sizes) m (r .origin) (j - r .next) (k .masked) (omega arith)))
 
   -- one that is there already, or old
   kept-moves : (after : Slots) (n : ℕ) (x : Message) → after ≡ slot → (r .next ≤ n → Full (receives w slot r .stored n))

@@ -9,6 +9,7 @@ use Rattle.ground.specs.Pick.{pick}
 use Rattle.ground.proofs.Picks.{each, together, pick-by}
 use Rattle.ground.proofs.Either.{or-second, or-either}
 use Rattle.channel.specs.Channel.{windowOf}
+use Rattle.places.proofs.Masks.{mask-set}
 use Rattle.sending.specs.Sending.{sendingFits, emptiedSending}
 use Rattle.receiving.specs.Receiving.{receivingFits, emptiedReceiving}
 use Rattle.sending.specs.declared.Sending.{Sending}
@@ -81,7 +82,7 @@ opened-ok s time f =
       receiving1 = fresh-receiving 32 largest (lit≤ tt) (lit< tt);
       receiving2 = fresh-receiving 8 largest (lit≤ tt) (lit< tt);
       owed = fresh-fits;
-      quiet = λ n. refl;
+      quiet = λ n. rw mask-set;
     }
 
 -- a change of mode, with what it says of the channels
@@ -97,7 +98,7 @@ stepped-ok l k m f =
       receiving1 = fresh-receiving 32 largest (lit≤ tt) (lit< tt);
       receiving2 = fresh-receiving 8 largest (lit≤ tt) (lit< tt);
       owed = fresh-fits;
-      quiet = λ n. refl;
+      quiet = λ n. rw mask-set;
     })
     (λ a b. record {
       settings = k .settings;
@@ -107,7 +108,7 @@ stepped-ok l k m f =
       receiving1 = cleared-keeps 32 largest (lit≤ tt) (l .receiving1) (k .receiving1);
       receiving2 = cleared-keeps 8 largest (lit≤ tt) (l .receiving2) (k .receiving2);
       owed = fresh-fits;
-      quiet = λ n. refl;
+      quiet = λ n. rw mask-set;
     })
     (λ a b. stays (λ n. absurd (n b)))
     (λ a b. stays (λ n. k .quiet a))

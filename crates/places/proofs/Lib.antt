@@ -1,3 +1,4 @@
 pub mod Bits
+pub mod Masks
 pub mod Ranks
 pub mod Walks

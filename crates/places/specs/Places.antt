@@ -1,5 +1,6 @@
--- A set of places as a mask, whose bit i is set where place i is in the set. All that is said of a mask is said of a number, so that
--- a wider mask changes `maskOf`, `setOf` and `widest` here, the arrays of sizes, and the laws of `flow` that compute a mask from its set.
+-- A set of places as a mask, whose bit i is set where place i is in the set. All that is said of a mask is said of a number, and no
+-- crate above opens `maskOf` or `setOf`: `mask-set` is all that is known of them. So a wider mask changes these two, `widest`, the methods
+-- and the arrays of sizes, and no law above.
 -- Assumes nothing.
 use Prim.Native.Nat.{ℕ, zero, suc, _+_, _-_, _/_, _%_, _^_}
 use mathlib.Core.Bool.{Bool, _&&_}
@@ -10,10 +11,10 @@ use Rattle.places.specs.declared.Places.{Places}
 use Rattle.places.specs.declared.Place.the-variants.{At, Missing}
 
 -- the mask of a set, and the set of a mask
-abbrev pub maskOf : Places → ℕ
+unfoldable pub maskOf : Places → ℕ
 maskOf p = p .bits
 
-abbrev pub setOf : ℕ → Places
+unfoldable pub setOf : ℕ → Places
 setOf m = record { bits = m }
 
 -- how many places a mask has room for

@@ -34,7 +34,8 @@ use Rattle.mode.specs.Request.{askStep}
 use Rattle.mode.specs.Recovery.{due, tickedModes, tickedAnswer, tickStep}
 use Rattle.mode.specs.Acts.{ask, tick, Outcome, outcome, after}
 use Rattle.mode.proofs.Recovering.{recovery-begins, not-yet}
-use Rattle.places.specs.Places.{setOf, bitOf}
+use Rattle.places.specs.Places.{maskOf, bitOf}
+use Rattle.places.specs.declared.Places.{Places}
 use lib.ListN.{replicate}
 use Rattle.ground.specs.Every.{every}
 use Rattle.channel.specs.Sizes as sizes
@@ -144,11 +145,11 @@ unfolding slipAt slipFits formFits bitsAt
 row-5-read = refl
 
 -- 6. Channel 1, R = 16,380: number 27 is stored (d = 31), its place being empty; 28 is old. Whatever else the side holds
-module _ (origin mask : ℕ) (sizes : List ℕ) where
+module _ (set : Places) (origin : ℕ) (sizes : List ℕ) where
   abbrev at16380 : Receiving
-  at16380 = record { next = 16380; stored = setOf mask; origin = origin; sizes = sizes }
+  at16380 = record { next = 16380; stored = set; origin = origin; sizes = sizes }
 
-  pub row-6-stored : bitOf mask 31 ≡ false → arrivalOf (windowOf 1) at16380 27 ≡ Stored 31
+  pub row-6-stored : bitOf (maskOf set) 31 ≡ false → arrivalOf (windowOf 1) at16380 27 ≡ Stored 31
   unfolding arrivalOf
   row-6-stored e = rw e
 
@@ -157,9 +158,9 @@ module _ (origin mask : ℕ) (sizes : List ℕ) where
   row-6-old = refl
 
 -- 7. h = 0, S = 32: FULL; after base 1 is heard one is taken. Whatever else the side holds
-module _ (origin mask : ℕ) (sizes : List ℕ) where
+module _ (set : Places) (origin : ℕ) (sizes : List ℕ) where
   abbrev taken32 : Sending
-  taken32 = record { taken = 32; base = 0; unacked = setOf mask; origin = origin; sizes = sizes }
+  taken32 = record { taken = 32; base = 0; unacked = set; origin = origin; sizes = sizes }
 
   pub row-7-full : verdict (takeTests (windowOf 1) taken32) ≡ Refuse FULL
   row-7-full = refl

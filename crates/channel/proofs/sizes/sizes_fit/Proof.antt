@@ -15,9 +15,9 @@ use Rattle.channel.specs.Distance.{placeOf}
 use Rattle.ground.proofs.Every.{every-all, every-not, below-suc}
 use Rattle.places.specs.Places.{maskOf, bitOf}
 use Rattle.channel.specs.Sizes.{sizeFits, sizeAt, sizesFit}
-use Rattle.places.specs.declared.Places.{Places}
 use Rattle.channel.proofs.Distances.{place-lt}
 use Rattle.places.proofs.Bits.{bit-past}
+use Rattle.places.proofs.Masks.{mask-is}
 use Rattle.places.proofs.Walks.{walk-begins, walk-at, walk-on, walk-below, walk-ends}
 
 abbrev Inv-loop : tie.InvT-loop
@@ -108,7 +108,7 @@ loop-again c =
     let m = maskOf (a .set) in
     let b = sym (walk-at m (l .i) (maskOf (l .rest)) (l .inv .1)) ∙ sym (c .before .before .has .ensures) in (
       omega (arith, at-loop (s .before) (s .if1 .taken)),
-      ap (λ (p : Places). maskOf p) (c .dropped .ensures) ∙ walk-on m (l .i) (maskOf (l .rest)) (l .inv .1),
+      mask-is _ (c .dropped .ensures) ∙ walk-on m (l .i) (maskOf (l .rest)) (l .inv .1),
       λ j q. below-suc (λ k. sizeAt (a .window) (a .largest) (a .t1) m (a .origin) k ≡ true) (l .i) (l .inv .2)
           (⊎-elim (λ w. met (a .window) (a .largest) (a .t1) m (a .origin) (l .i) (b ∙ w .0 .taken) (w .1 .ensures) (w .2 .ensures)
           ∙ not-false _ (w .3 .left))

@@ -3,17 +3,20 @@ use Rattle.places.proofs.Places.with.Statement.{statement}
 use Rattle.places.proofs.Places.with.Tie as tie
 use mathlib.Core.Path.{sym, _∙_}
 use Rattle.places.proofs.Bits.{or-bit, one-shl}
+use Rattle.places.specs.Places.{maskOf, setOf}
 
 has-requires : tie.Need-has-requires
 has-requires c κs = search needs
 
 returns : tie.Need-returns
+unfolding maskOf setOf
 returns c = simp (sym (c .before .has .ensures) ∙ c .if1 .taken)
 
 shl-t4 : tie.Need-shl-t4
 shl-t4 c = search needs
 
 returns-2 : tie.Need-returns-2
+unfolding maskOf setOf
 returns-2 c =
     let b = c .before .before in
     let f = sym (b .has .ensures) ∙ c .before .if1 .left in

@@ -1,0 +1,15 @@
+-- What is known of a set and its mask, whatever the set is made of.
+-- Assumes nothing.
+use Prim.Native.Nat.{ℕ}
+use mathlib.Core.Path.{_≡_, refl, ap, _∙_}
+use Rattle.places.specs.Places.{maskOf, setOf}
+use Rattle.places.specs.declared.Places.{Places}
+
+-- every mask has a set
+pub mask-set : (m : ℕ) → maskOf (setOf m) ≡ m
+unfolding maskOf setOf
+mask-set m = refl
+
+-- a set that is known by its mask has that mask
+pub mask-is : {p : Places} (m : ℕ) → p ≡ setOf m → maskOf p ≡ m
+mask-is m e = ap (λ (q : Places). maskOf q) e ∙ mask-set m
