@@ -15,7 +15,13 @@ pub fn size_fits(size: u16, largest: u16) -> bool
 
 // Has each message of the set, the oldest of which lies at place `origin`, 1 to `largest` octets? Only places of the set are looked
 // at, and nothing past the highest.
-pub fn sizes_fit(sizes: [u16; 32], set: Places, origin: u32, window: u32, largest: u16) -> bool
+pub fn sizes_fit(
+    sizes: [u16; Places::WIDEST],
+    set: Places,
+    origin: u32,
+    window: u32,
+    largest: u16,
+) -> bool
     requires { ⌜ (origin < window) × (window ≤ widest) × (maskOf set < 2 ^ window) ⌝ }
     ensures { λ r. ⌜ r ≡ sizesFit window largest sizes (maskOf set) origin ⌝ }
 {

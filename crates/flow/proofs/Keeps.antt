@@ -23,8 +23,8 @@ use Rattle.channel.specs.Sizes.{sizeFits}
 use Rattle.receiving.specs.declared.Arrival.{Arrival}
 use Rattle.receiving.specs.declared.Receiving.{Receiving}
 use Rattle.sending.specs.declared.Sending.{Sending}
-use Rattle.places.proofs.Bits.{bit-past, within-lt, lt-within, with-lt, without-le}
-use Rattle.places.proofs.Masks.{mask-set}
+use Rattle.places.proofs.Bits.{within-lt, lt-within, with-lt, without-le}
+use Rattle.places.proofs.Masks.{mask-set, none-bit}
 use Rattle.channel.proofs.Distances.{place-lt}
 use Rattle.flow.proofs.Sized.{Sized, sizes-each, sizes-all, sized-with, sized-without, sized-dropped}
 
@@ -144,7 +144,7 @@ module _ {w : ℕ} (r : Receiving) (k : ReceivingOk w r) where
 module _ (w z : ℕ) (narrow : w ≤ widest) where
   -- where nothing is there, no size is asked after
   none-sized : (sizes : List ℕ) (origin : ℕ) → Sized w z sizes (maskOf (setOf 0)) origin
-  none-sized sizes origin = rw mask-set (λ i l b. clash (sym (bit-past 0 0 i (pow-pos 0) (omega arith)) ∙ b))
+  none-sized sizes origin i l b = clash (sym (none-bit i) ∙ b)
 
   module _ (s : Sending) (t : sendingFits w z s ≡ true) where
     ok : SendingOk w s

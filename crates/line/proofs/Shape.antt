@@ -6,6 +6,7 @@ use mathlib.Core.Bool.{Bool, true, false}
 use lib.Dec.{eqb}
 use lib.ListN.{length}
 use Rattle.ground.specs.Pick.{pick}
+use Rattle.places.specs.Places.{widest}
 use Rattle.sending.specs.Sending.{emptiedSending}
 use Rattle.receiving.specs.Receiving.{emptiedReceiving}
 use Rattle.sending.specs.declared.Sending.{Sending}
@@ -32,28 +33,28 @@ module _ (l : Line) (k : Shaped l) where
   stepped-shaped m Fresh = record { sending1 = refl; sending2 = refl; receiving1 = refl; receiving2 = refl }
   stepped-shaped m Emptied = record { sending1 = k .sending1; sending2 = k .sending2; receiving1 = k .receiving1; receiving2 = k .receiving2 }
 
-  pub sending-long : (channel : ℕ) → length (sendingOf l channel .sizes) ≡ 32
+  pub sending-long : (channel : ℕ) → length (sendingOf l channel .sizes) ≡ widest
   sending-long channel = go (eqb channel 1)
     where
-      go : (t : Bool) → length (pick {A = Sending} t (l .sending1) (l .sending2) .sizes) ≡ 32
+      go : (t : Bool) → length (pick {A = Sending} t (l .sending1) (l .sending2) .sizes) ≡ widest
       go true = k .sending1
       go false = k .sending2
 
-  pub receiving-long : (channel : ℕ) → length (receivingOf l channel .sizes) ≡ 32
+  pub receiving-long : (channel : ℕ) → length (receivingOf l channel .sizes) ≡ widest
   receiving-long channel = go (eqb channel 1)
     where
-      go : (t : Bool) → length (pick {A = Receiving} t (l .receiving1) (l .receiving2) .sizes) ≡ 32
+      go : (t : Bool) → length (pick {A = Receiving} t (l .receiving1) (l .receiving2) .sizes) ≡ widest
       go true = k .receiving1
       go false = k .receiving2
 
-  pub with-sending-shaped : (channel : ℕ) (s : Sending) → length (s .sizes) ≡ 32 → Shaped (withSending l channel s)
+  pub with-sending-shaped : (channel : ℕ) (s : Sending) → length (s .sizes) ≡ widest → Shaped (withSending l channel s)
   with-sending-shaped channel s e = go (eqb channel 1)
     where
       go : (t : Bool) → Shaped (pick t (withSides l s (l .sending2) (l .receiving1) (l .receiving2)) (withSides l (l .sending1) s (l .receiving1) (l .receiving2)))
       go true = record { sending1 = e; sending2 = k .sending2; receiving1 = k .receiving1; receiving2 = k .receiving2 }
       go false = record { sending1 = k .sending1; sending2 = e; receiving1 = k .receiving1; receiving2 = k .receiving2 }
 
-  pub with-receiving-shaped : (channel : ℕ) (r : Receiving) → length (r .sizes) ≡ 32 → Shaped (withReceiving l channel r)
+  pub with-receiving-shaped : (channel : ℕ) (r : Receiving) → length (r .sizes) ≡ widest → Shaped (withReceiving l channel r)
   with-receiving-shaped channel r e = go (eqb channel 1)
     where
       go : (t : Bool) → Shaped (pick t (withSides l (l .sending1) (l .sending2) r (l .receiving2)) (withSides l (l .sending1) (l .sending2) (l .receiving1) r))

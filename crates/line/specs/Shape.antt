@@ -2,10 +2,11 @@
 -- Assumes nothing.
 use mathlib.Core.Path.{_≡_}
 use lib.ListN.{length}
+use Rattle.places.specs.Places.{widest}
 use Rattle.line.specs.declared.Line.{Line}
 
 pub record Shaped (l : Line) : Type 0 where
-  pub sending1 : length (l .sending1 .sizes) ≡ 32
-  pub sending2 : length (l .sending2 .sizes) ≡ 32
-  pub receiving1 : length (l .receiving1 .sizes) ≡ 32
-  pub receiving2 : length (l .receiving2 .sizes) ≡ 32
+  pub sending1 : length (l .sending1 .sizes) ≡ widest
+  pub sending2 : length (l .sending2 .sizes) ≡ widest
+  pub receiving1 : length (l .receiving1 .sizes) ≡ widest
+  pub receiving2 : length (l .receiving2 .sizes) ≡ widest

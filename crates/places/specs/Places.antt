@@ -1,6 +1,6 @@
--- A set of places as a mask, whose bit i is set where place i is in the set. All that is said of a mask is said of a number, and no
--- crate above opens `maskOf` or `setOf`: `mask-set` is all that is known of them. So a wider mask changes these two, `widest`, the methods
--- and the arrays of sizes, and no law above.
+-- A set of places as a mask, whose bit i is set where place i is in the set. All that is said of a mask is said of a number. What a set is
+-- made of is closed: above, `mask-set` is all that is known of `maskOf` and `setOf`, and only a run that is computed opens them. So a wider
+-- mask changes these two and `widest`, the methods and their proofs, and nothing above.
 -- Assumes nothing.
 use Prim.Native.Nat.{ℕ, zero, suc, _+_, _-_, _/_, _%_, _^_}
 use mathlib.Core.Bool.{Bool, _&&_}

@@ -1,5 +1,5 @@
 // A set of places as a mask: place i is in it where bit i is set. It counts from the oldest message, so that moving on is a shift.
-// Contracts speak of the mask as a number: a window over 32 needs a wider one here, and longer arrays of sizes in both sides.
+// Contracts speak of the mask as a number: a window over 32 needs more words in the struct, and nothing above.
 ghost use mathlib.Core.Path.{_≡_};
 ghost use Prim.Native.Nat.{_/_, _^_, _<_};
 ghost use lib.Dec.{eqb};
@@ -17,6 +17,9 @@ pub enum Place {
 }
 
 impl Places {
+    // How many places a set has room for: `widest` in the contracts.
+    pub const WIDEST: usize = 32;
+
     // The set of no places.
     pub fn none() -> Places
         ensures { λ r. ⌜ r ≡ setOf 0 ⌝ }

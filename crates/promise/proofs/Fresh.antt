@@ -8,9 +8,9 @@ use mathlib.Core.List.{List, []}
 use native.Mathlib.Omega.{arith}
 use lib.Dec.{lit<, eqb}
 use lib.ListN.{length}
-use lib.Pow.{pow-pos}
 use Rattle.ground.proofs.Picks.{pick-by}
-use Rattle.places.proofs.Bits.{bit-past}
+use Rattle.places.specs.Places.{maskOf, setOf}
+use Rattle.places.proofs.Masks.{none-bit}
 use Rattle.channel.specs.Channel.{windowOf}
 use Rattle.sending.specs.Sending.{freshSending, emptiedSending, sendingFits}
 use Rattle.receiving.specs.Receiving.{freshReceiving, emptiedReceiving, receivingFits}
@@ -99,13 +99,13 @@ module _ {l : Line} (u : Unused l) where
   pub unused-sends : (store : List ℕ) (i c : ℕ) → sendsOf store i l c ≡ noSends
   unused-sends store i c =
       let slots = slotsOf store i way.Sending c in
-      let f = fun-ext (λ n. message-none (windowOf c) slots (freshSending .sizes) 0 0 (n - 0) (bit-past 0 0 (n - 0) (pow-pos 0) (omega arith))) in
+      let f = fun-ext (λ n. message-none (windowOf c) slots (freshSending .sizes) (maskOf (setOf 0)) 0 (n - 0) (none-bit (n - 0))) in
       ap (sends (windowOf c) slots) (u .sending c) ∙ (λ t. record { S = 0; h = 0; held = f t })
 
   pub unused-receives : (store : List ℕ) (i c : ℕ) → receivesOf store i l c ≡ noReceives
   unused-receives store i c =
       let slots = slotsOf store i way.Receiving c in
-      let f = fun-ext (λ n. message-none (windowOf c) slots (freshReceiving .sizes) 0 0 (n - 0) (bit-past 0 0 (n - 0) (pow-pos 0) (omega arith))) in
+      let f = fun-ext (λ n. message-none (windowOf c) slots (freshReceiving .sizes) (maskOf (setOf 0)) 0 (n - 0) (none-bit (n - 0))) in
       ap (receives (windowOf c) slots) (u .receiving c) ∙ (λ t. record { R = 0; stored = f t })
 
 -- the past of a line that nothing has become of

@@ -18,7 +18,7 @@ use Rattle.receiving.specs.declared.Arrival.the-variants.{Stored, There,
 
 -- R is 0 and nothing is stored (RULES 9.12); message 0 has place 0 (RULES 6.5)
 abbrev pub freshReceiving : Receiving
-freshReceiving = record { next = 0; stored = setOf 0; origin = 0; sizes = replicate 32 0 }
+freshReceiving = record { next = 0; stored = setOf 0; origin = 0; sizes = replicate widest 0 }
 
 -- "Payload number n against the next to hand out R": let d = (n - R) mod 16,384; below the window it is stored (RULES 4.7), unless its
 -- place is already filled (RULES 4.8); at or past the window it is old (RULES 4.9)

@@ -23,7 +23,7 @@ pub struct Receiving {
     // The place of message R; message R + i lies i places further on. Below the window.
     pub origin: u32,
     // By place: how many octets the message there has.
-    pub sizes: [u16; 32],
+    pub sizes: [u16; Places::WIDEST],
 }
 
 // What becomes of a number that arrives with a payload.
@@ -42,7 +42,7 @@ impl Receiving {
         ensures { λ r. ⌜ r ≡ freshReceiving ⌝ }
     {
         let none = Places::none();
-        let sizes = [0u16; 32];
+        let sizes = [0u16; Places::WIDEST];
         Receiving {
             next: 0,
             stored: none,

@@ -13,6 +13,7 @@ use Rattle.ground.specs.Answer.{Answer}
 use Rattle.ground.specs.Every.{every}
 use Rattle.packet.specs.Read.{headAt}
 use Rattle.packet.specs.declared.Head.{Head}
+use Rattle.places.specs.Places.{maskOf, setOf}
 use Rattle.sending.specs.Sending.{tookOne, sendingFits}
 use Rattle.receiving.specs.Receiving.{receivingFits}
 use Rattle.channel.specs.Sizes as sizes
@@ -66,7 +67,7 @@ there identifier = called (turns identifier)
 
 -- the packets of two lines do not say the same: no build gives one packet s wherever it writes one
 pub constant-packets-fail : (b : Build) (s : List ℕ) → ((g : Gateway) (out : List ℕ) → accepts (does (b .does) g (call.empty 0 0) out) ≡ true → given (does (b .does) g (call.empty 0 0) out) ≡ s) → Demand2 b → ⊥
-unfolding reach resultOf acceptedResult effect order lineFor openOrder askOrder bookFits linesFit allSpan openIn lineFits member noTwice allSpans owedFits modesFit sendingFits receivingFits sizes.sizesFit every askStep moved timed channelsFor steppedTo
+unfolding reach resultOf acceptedResult effect order lineFor openOrder askOrder bookFits linesFit allSpan openIn lineFits member noTwice allSpans owedFits modesFit sendingFits receivingFits maskOf setOf sizes.sizesFit every askStep moved timed channelsFor steppedTo
 constant-packets-fail b s same d =
     let one = d .empty-back (there 5) 0 (ready (turns 5) refl (lit≤ tt)) refl 0 (lit≤ tt) (replicate 12 0) (lit≤ tt) in
     let other = d .empty-back (there 6) 0 (ready (turns 6) refl (lit≤ tt)) refl 0 (lit≤ tt) (replicate 12 0) (lit≤ tt) in
@@ -78,7 +79,7 @@ constant-packet-fails s = constant-packets-fail (constantPacket s) s (λ g out e
 
 -- of no message and of one the report says not the same
 pub made-up-fails : (n : ℕ) → Reports (madeUp n) → ⊥
-unfolding reach resultOf acceptedResult effect order lineFor openOrder askOrder bookFits linesFit allSpan openIn lineFits member noTwice allSpans owedFits modesFit sendingFits receivingFits sizes.sizesFit every askStep moved timed channelsFor steppedTo takeOrder tookOne regionOf heldFrom
+unfolding reach resultOf acceptedResult effect order lineFor openOrder askOrder bookFits linesFit allSpan openIn lineFits member noTwice allSpans owedFits modesFit sendingFits receivingFits maskOf setOf sizes.sizesFit every askStep moved timed channelsFor steppedTo takeOrder tookOne regionOf heldFrom
 made-up-fails n d =
     let ts : List Turn = turn (call.opening 0 (named 5) 0) ∷ turn (call.mode 0 (ask modem 0)) ∷ turn (call.taking 0 1 (7 ∷ [])) ∷ [] in
     let none = d .exact (there 5) 0 (ready (turns 5) refl (lit≤ tt)) refl 1 refl [] in

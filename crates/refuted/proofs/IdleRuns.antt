@@ -14,7 +14,7 @@ use Rattle.packet.specs.Acks.{acksServed}
 use Rattle.packet.specs.Read.{headAt, numberAt, baseAt, acksAt, ackAt, payloadOf}
 use Rattle.packet.specs.Read as reading
 use Rattle.packet.specs.Write.{packetOctets}
-use Rattle.places.specs.Places.{setBelow, lowest, rankOf}
+use Rattle.places.specs.Places.{maskOf, setOf, setBelow, lowest, rankOf}
 use Rattle.sending.specs.Sending.{tookOne, heardBase, ackedBy, heldOf, sendingFits}
 use Rattle.receiving.specs.Receiving.{arrivalOf, storedAt, receivingFits}
 use Rattle.channel.specs.Sizes as sizes
@@ -66,7 +66,7 @@ module _ (w t : Does) (a : Arrives) where
   inside = after f (after f fresh opening []) asks []
 
   pub begun : Goes f 0 0 5 98 fresh nothingYet fresh nothingYet inside justOpened inside justOpened
-  unfolding resultOf acceptedResult effect order lineFor openOrder askOrder bookFits linesFit allSpan openIn lineFits member noTwice allSpans owedFits modesFit sendingFits receivingFits sizes.sizesFit every askStep moved timed channelsFor steppedTo
+  unfolding resultOf acceptedResult effect order lineFor openOrder askOrder bookFits linesFit allSpan openIn lineFits member noTwice allSpans owedFits modesFit sendingFits receivingFits maskOf setOf sizes.sizesFit every askStep moved timed channelsFor steppedTo
   begun =
       there (here (there (here stay
       (opens refl (named 5) 0 [] refl refl refl))
@@ -80,7 +80,7 @@ run f w = record { store1 = zeros; store2 = zeros; lines = (lit< tt, lit< tt); l
 
 -- a message that is taken is counted
 pub holds-nothing-fails : Demand3 holdsNothing → ⊥
-unfolding resultOf acceptedResult effect order lineFor openOrder askOrder bookFits linesFit allSpan openIn lineFits member noTwice allSpans owedFits modesFit sendingFits receivingFits sizes.sizesFit every askStep moved timed channelsFor steppedTo takeOrder
+unfolding resultOf acceptedResult effect order lineFor openOrder askOrder bookFits linesFit allSpan openIn lineFits member noTwice allSpans owedFits modesFit sendingFits receivingFits maskOf setOf sizes.sizesFit every askStep moved timed channelsFor steppedTo takeOrder
 holds-nothing-fails d =
     let w = here (begun resultOf forgets lets) (calls refl (call.taking 0 1 (7 ∷ [])) [] refl (λ _. refl) (took 1 (7 ∷ []) refl)) in
     let n : _≡_ {A = ℕ} 1 0 = d .promised (run (instead resultOf forgets lets resultOf) w) .there 1 refl .counted in
@@ -113,7 +113,7 @@ module _ (a : Arrives) where
   sender = after g holds (call.sending 0 1 0) space
 
   one-sent : Goes g 0 0 5 98 fresh nothingYet fresh nothingYet sender (wrotePast past packet) start justOpened
-  unfolding resultOf acceptedResult effect order lineFor openOrder askOrder bookFits linesFit allSpan openIn lineFits member noTwice allSpans owedFits modesFit sendingFits receivingFits sizes.sizesFit every askStep moved timed channelsFor steppedTo takeOrder tookOne regionOf sendOrder heldPacket heldOf rankOf lowest setBelow acksFor firstThree baseFor wroteLine packetOctets withoutThree
+  unfolding resultOf acceptedResult effect order lineFor openOrder askOrder bookFits linesFit allSpan openIn lineFits member noTwice allSpans owedFits modesFit sendingFits receivingFits maskOf setOf sizes.sizesFit every askStep moved timed channelsFor steppedTo takeOrder tookOne regionOf sendOrder heldPacket heldOf rankOf lowest setBelow acksFor firstThree baseFor wroteLine packetOctets withoutThree
   one-sent =
       here (here (begun resultOf resultOf a)
       (calls refl (take 7) [] refl (λ _. refl) (took 1 (7 ∷ []) refl)))
@@ -121,12 +121,12 @@ module _ (a : Arrives) where
 
   -- the packet is such as the premise speaks of
   honest : Honest justOpened (wrotePast past packet) (packet .octets) packet
-  unfolding resultOf acceptedResult effect order lineFor openOrder askOrder bookFits linesFit allSpan openIn lineFits member noTwice allSpans owedFits modesFit sendingFits receivingFits sizes.sizesFit every askStep moved timed channelsFor steppedTo takeOrder tookOne heldOf rankOf lowest setBelow
+  unfolding resultOf acceptedResult effect order lineFor openOrder askOrder bookFits linesFit allSpan openIn lineFits member noTwice allSpans owedFits modesFit sendingFits receivingFits maskOf setOf sizes.sizesFit every askStep moved timed channelsFor steppedTo takeOrder tookOne heldOf rankOf lowest setBelow
   honest = record { written = List·Memᴰ·head refl; same = refl; carries = also (lit< tt) none; names = also (lit< tt) none; acks = none }
 
 -- it came, and nothing can be handed out
 pub stores-nothing-fails : Demand3 storesNothing → ⊥
-unfolding resultOf acceptedResult effect order lineFor openOrder askOrder bookFits linesFit allSpan openIn lineFits member noTwice allSpans owedFits modesFit sendingFits receivingFits sizes.sizesFit every askStep moved timed channelsFor steppedTo takeOrder tookOne regionOf sendOrder heldPacket heldOf rankOf lowest setBelow acksFor firstThree baseFor wroteLine packetOctets withoutThree arriveOrder ownerFrom headAt numberAt baseAt acksAt ackAt acksServed payloadOf reading.sizeFits bitsAt handOutOrder
+unfolding resultOf acceptedResult effect order lineFor openOrder askOrder bookFits linesFit allSpan openIn lineFits member noTwice allSpans owedFits modesFit sendingFits receivingFits maskOf setOf sizes.sizesFit every askStep moved timed channelsFor steppedTo takeOrder tookOne regionOf sendOrder heldPacket heldOf rankOf lowest setBelow acksFor firstThree baseFor wroteLine packetOctets withoutThree arriveOrder ownerFrom headAt numberAt baseAt acksAt ackAt acksServed payloadOf reading.sizeFits bitsAt handOutOrder
 stores-nothing-fails d =
     let k = packet loses in
     let w = there (one-sent loses) (calls refl (call.arrival (k .octets)) [] refl (λ _. refl) (heard (k .octets) k refl refl (honest loses))) in
@@ -166,7 +166,7 @@ ack = emptyPacket skipped skippedPast 0 0 (does store1 skipped (call.empty 0 0) 
 
 -- message 8 waits, and is held at neither end
 pub first-only-fails : Demand3 firstOnly → ⊥
-unfolding resultOf acceptedResult effect order lineFor openOrder askOrder bookFits linesFit allSpan openIn lineFits member noTwice allSpans owedFits modesFit sendingFits receivingFits sizes.sizesFit every askStep moved timed channelsFor steppedTo takeOrder tookOne regionOf sendOrder heldPacket heldOf rankOf lowest setBelow acksFor firstThree baseFor wroteLine packetOctets withoutThree arriveOrder ownerFrom headAt numberAt baseAt acksAt ackAt acksServed payloadOf reading.sizeFits bitsAt arrivedLine newsLine heardLine heardBase ackedAll ackedLine ackedBy storedLine arrivalOf storedAt entered enters arrivedStore storedStore emptyOrder writes.emptyPacket marks.there marks.renewed marks.enter marks.enterAll
+unfolding resultOf acceptedResult effect order lineFor openOrder askOrder bookFits linesFit allSpan openIn lineFits member noTwice allSpans owedFits modesFit sendingFits receivingFits maskOf setOf sizes.sizesFit every askStep moved timed channelsFor steppedTo takeOrder tookOne regionOf sendOrder heldPacket heldOf rankOf lowest setBelow acksFor firstThree baseFor wroteLine packetOctets withoutThree arriveOrder ownerFrom headAt numberAt baseAt acksAt ackAt acksServed payloadOf reading.sizeFits bitsAt arrivedLine newsLine heardLine heardBase ackedAll ackedLine ackedBy storedLine arrivalOf storedAt entered enters arrivedStore storedStore emptyOrder writes.emptyPacket marks.there marks.renewed marks.enter marks.enterAll
 first-only-fails d =
     let w = here (there (there (here (here (here (begun resultOf resultOf skips)
     (calls refl (take skips 7) [] refl (λ _. refl) (took 1 (7 ∷ []) refl)))

@@ -9,6 +9,7 @@ use Rattle.field.specs.Bits.{bitsAt}
 use Rattle.packet.specs.Acks.{acksServed}
 use Rattle.packet.specs.Read.{headAt, numberAt, baseAt, acksAt, ackAt, payloadOf}
 use Rattle.packet.specs.Read as packet
+use Rattle.places.specs.Places.{maskOf, setOf}
 use Rattle.sending.specs.Sending.{sendingFits}
 use Rattle.receiving.specs.Receiving.{receivingFits}
 use Rattle.channel.specs.Sizes as sizes
@@ -29,7 +30,7 @@ use Rattle.refuted.specs.Quick.{callersLine}
 
 -- a packet for identifier 6 is accepted at the line of identifier 5
 pub callers-line-fails : Demand2 callersLine → ⊥
-unfolding reach resultOf acceptedResult effect order lineFor openOrder askOrder bookFits linesFit allSpan openIn lineFits member noTwice allSpans owedFits modesFit sendingFits receivingFits sizes.sizesFit every askStep moved timed channelsFor steppedTo arriveOrder ownerFrom headAt numberAt baseAt acksAt ackAt acksServed payloadOf packet.sizeFits bitsAt
+unfolding reach resultOf acceptedResult effect order lineFor openOrder askOrder bookFits linesFit allSpan openIn lineFits member noTwice allSpans owedFits modesFit sendingFits receivingFits maskOf setOf sizes.sizesFit every askStep moved timed channelsFor steppedTo arriveOrder ownerFrom headAt numberAt baseAt acksAt ackAt acksServed payloadOf packet.sizeFits bitsAt
 callers-line-fails d =
     let n : _≡_ {A = ℕ} 5 6 = d .inside (there 5) (6 ∷ 98 ∷ 0 ∷ 0 ∷ 0 ∷ 0 ∷ []) [] refl .named in
     omega (arith, n)

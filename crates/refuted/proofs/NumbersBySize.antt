@@ -13,7 +13,7 @@ use borrow.Author.Tests.{lt-ltb}
 use Rattle.ground.specs.Every.{every}
 use Rattle.ground.specs.Pick.{pick}
 use Rattle.ground.proofs.Verdicts.{passed}
-use Rattle.places.specs.Places.{maskOf, bitOf}
+use Rattle.places.specs.Places.{maskOf, setOf, bitOf}
 use Rattle.packet.specs.Read.{headAt}
 use Rattle.channel.specs.Channel.{windowOf}
 use Rattle.sending.specs.Sending.{sendingFits}
@@ -68,7 +68,7 @@ use Rattle.refuted.proofs.Answered.{round}
 
 -- the two begin, in a run of ours and of this build alike
 start : At 0
-unfolding resultOf acceptedResult effect order lineFor openOrder askOrder bookFits linesFit allSpan openIn lineFits member noTwice allSpans owedFits modesFit sendingFits receivingFits sizes.sizesFit every askStep moved timed channelsFor steppedTo
+unfolding resultOf acceptedResult effect order lineFor openOrder askOrder bookFits linesFit allSpan openIn lineFits member noTwice allSpans owedFits modesFit sendingFits receivingFits maskOf setOf sizes.sizesFit every askStep moved timed channelsFor steppedTo
 start =
     let opening : Call = call.opening 0 (named 5) 0 in
     let asks : Call = call.mode 0 (ask modem 0) in

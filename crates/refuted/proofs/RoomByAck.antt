@@ -13,7 +13,7 @@ use Rattle.packet.specs.Acks.{acksServed}
 use Rattle.packet.specs.Read.{headAt, numberAt, baseAt, acksAt, ackAt, payloadOf}
 use Rattle.packet.specs.Read as reading
 use Rattle.packet.specs.Write.{packetOctets}
-use Rattle.places.specs.Places.{setBelow, lowest, rankOf}
+use Rattle.places.specs.Places.{maskOf, setOf, setBelow, lowest, rankOf}
 use Rattle.sending.specs.Sending.{tookOne, heardBase, ackedBy, heldOf, sendingFits}
 use Rattle.receiving.specs.Receiving.{arrivalOf, storedAt, receivingFits}
 use Rattle.channel.specs.Sizes as sizes
@@ -79,7 +79,7 @@ abbrev fullPast : Past
 fullPast = tells justOpened eight
 
 taken : Goes f 0 0 5 98 fresh nothingYet fresh nothingYet full fullPast start justOpened
-unfolding resultOf acceptedResult effect order lineFor openOrder askOrder bookFits linesFit allSpan openIn lineFits member noTwice allSpans owedFits modesFit sendingFits receivingFits sizes.sizesFit every askStep moved timed channelsFor steppedTo takeOrder tookOne regionOf
+unfolding resultOf acceptedResult effect order lineFor openOrder askOrder bookFits linesFit allSpan openIn lineFits member noTwice allSpans owedFits modesFit sendingFits receivingFits maskOf setOf sizes.sizesFit every askStep moved timed channelsFor steppedTo takeOrder tookOne regionOf
 taken =
     here (here (here (here (here (here (here (here (begun resultOf resultOf frees)
     (calls refl (taking 1) [] refl (λ _. refl) (took 2 (1 ∷ []) refl)))
@@ -117,7 +117,7 @@ abbrev freerPast : Past
 freerPast = heardPast (wrotePast fullPast one) ack
 
 acked : Goes f 0 0 5 98 fresh nothingYet fresh nothingYet freer freerPast answered answeredPast
-unfolding resultOf acceptedResult effect order lineFor openOrder askOrder bookFits linesFit allSpan openIn lineFits member noTwice allSpans owedFits modesFit sendingFits receivingFits sizes.sizesFit every askStep moved timed channelsFor steppedTo takeOrder tookOne regionOf sendOrder heldPacket heldOf rankOf lowest setBelow acksFor firstThree baseFor wroteLine packetOctets withoutThree arriveOrder ownerFrom headAt numberAt baseAt acksAt ackAt acksServed payloadOf reading.sizeFits bitsAt arrivedLine newsLine heardLine heardBase ackedAll ackedLine ackedBy storedLine arrivalOf storedAt entered enters arrivedStore storedStore emptyOrder writes.emptyPacket marks.there marks.renewed marks.enter marks.enterAll
+unfolding resultOf acceptedResult effect order lineFor openOrder askOrder bookFits linesFit allSpan openIn lineFits member noTwice allSpans owedFits modesFit sendingFits receivingFits maskOf setOf sizes.sizesFit every askStep moved timed channelsFor steppedTo takeOrder tookOne regionOf sendOrder heldPacket heldOf rankOf lowest setBelow acksFor firstThree baseFor wroteLine packetOctets withoutThree arriveOrder ownerFrom headAt numberAt baseAt acksAt ackAt acksServed payloadOf reading.sizeFits bitsAt arrivedLine newsLine heardLine heardBase ackedAll ackedLine ackedBy storedLine arrivalOf storedAt entered enters arrivedStore storedStore emptyOrder writes.emptyPacket marks.there marks.renewed marks.enter marks.enterAll
 acked =
     here (there (there (here taken
     (calls refl (call.sending 0 2 0) space refl (λ _. refl) (sent 2 0 refl)))
@@ -148,7 +148,7 @@ late = emptyPacket lost lostPast 0 0 (does f lost (call.empty 0 0) space)
 
 -- then it is held at neither end
 pub frees-on-ack-fails : Demand3 freesOnAck → ⊥
-unfolding resultOf acceptedResult effect order lineFor openOrder askOrder bookFits linesFit allSpan openIn lineFits member noTwice allSpans owedFits modesFit sendingFits receivingFits sizes.sizesFit every askStep moved timed channelsFor steppedTo takeOrder tookOne regionOf sendOrder heldPacket heldOf rankOf lowest setBelow acksFor firstThree baseFor wroteLine packetOctets withoutThree arriveOrder ownerFrom headAt numberAt baseAt acksAt ackAt acksServed payloadOf reading.sizeFits bitsAt arrivedLine newsLine heardLine heardBase ackedAll ackedLine ackedBy storedLine arrivalOf storedAt entered enters arrivedStore storedStore emptyOrder writes.emptyPacket marks.there marks.renewed marks.enter marks.enterAll
+unfolding resultOf acceptedResult effect order lineFor openOrder askOrder bookFits linesFit allSpan openIn lineFits member noTwice allSpans owedFits modesFit sendingFits receivingFits maskOf setOf sizes.sizesFit every askStep moved timed channelsFor steppedTo takeOrder tookOne regionOf sendOrder heldPacket heldOf rankOf lowest setBelow acksFor firstThree baseFor wroteLine packetOctets withoutThree arriveOrder ownerFrom headAt numberAt baseAt acksAt ackAt acksServed payloadOf reading.sizeFits bitsAt arrivedLine newsLine heardLine heardBase ackedAll ackedLine ackedBy storedLine arrivalOf storedAt entered enters arrivedStore storedStore emptyOrder writes.emptyPacket marks.there marks.renewed marks.enter marks.enterAll
 frees-on-ack-fails d =
     let w = here (there (there (here (here acked
     (calls refl (taking 9) [] refl (λ _. refl) (took 2 (9 ∷ []) refl)))

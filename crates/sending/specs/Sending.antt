@@ -21,7 +21,7 @@ use Rattle.sending.specs.declared.Ranked.the-variants.{Is, Nothing}
 
 -- S and h are 0 and nothing is held (RULES 9.12); message 0 has place 0 (RULES 6.5)
 abbrev pub freshSending : Sending
-freshSending = record { taken = 0; base = 0; unacked = setOf 0; origin = 0; sizes = replicate 32 0 }
+freshSending = record { taken = 0; base = 0; unacked = setOf 0; origin = 0; sizes = replicate widest 0 }
 
 -- how many messages are under way: S - h
 abbrev pub underWay : Sending → ℕ

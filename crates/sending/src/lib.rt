@@ -26,7 +26,7 @@ pub struct Sending {
     // The place of message h; message h + i lies i places further on. Below the window.
     pub origin: u32,
     // By place: how many octets the message there has.
-    pub sizes: [u16; 32],
+    pub sizes: [u16; Places::WIDEST],
 }
 
 // The side once an acknowledgement has been heard, and whether that named a message held unacknowledged.
@@ -54,7 +54,7 @@ impl Sending {
         ensures { λ r. ⌜ r ≡ freshSending ⌝ }
     {
         let none = Places::none();
-        let sizes = [0u16; 32];
+        let sizes = [0u16; Places::WIDEST];
         Sending {
             taken: 0,
             base: 0,

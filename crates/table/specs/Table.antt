@@ -34,7 +34,7 @@ use Rattle.mode.specs.Request.{askStep}
 use Rattle.mode.specs.Recovery.{due, tickedModes, tickedAnswer, tickStep}
 use Rattle.mode.specs.Acts.{ask, tick, Outcome, outcome, after}
 use Rattle.mode.proofs.Recovering.{recovery-begins, not-yet}
-use Rattle.places.specs.Places.{maskOf, bitOf}
+use Rattle.places.specs.Places.{maskOf, setOf, bitOf}
 use Rattle.places.specs.declared.Places.{Places}
 use lib.ListN.{replicate}
 use Rattle.ground.specs.Every.{every}
@@ -211,9 +211,9 @@ abbrev others : List ℕ
 others = 10 ∷ 11 ∷ 12 ∷ 13 ∷ 14 ∷ 15 ∷ 16 ∷ 17 ∷ 18 ∷ 19 ∷ 20 ∷ 21 ∷ 22 ∷ 23 ∷ 24 ∷ []
 
 pub row-9-taken : resultOf (call.opening 0 (named 9) 0) (closedOnes freshBook (9 ∷ others)) [] [] .answer ≡ refused TAKEN
-unfolding closedOnes resultOf acceptedResult effect order lineFor openOrder closeOrder bookFits linesFit allSpan openIn lineFits closedAt member noTwice allSpans owedFits modesFit sendingFits receivingFits sizes.sizesFit every slipOf slipOctets
+unfolding closedOnes resultOf acceptedResult effect order lineFor openOrder closeOrder bookFits linesFit allSpan openIn lineFits closedAt member noTwice allSpans owedFits modesFit sendingFits receivingFits maskOf setOf sizes.sizesFit every slipOf slipOctets
 row-9-taken = refl
 
 pub row-9-free : resultOf (call.opening 0 (named 9) 0) (closedOnes freshBook (9 ∷ 25 ∷ others)) [] [] .answer ≡ accepted []
-unfolding closedOnes resultOf acceptedResult effect order lineFor openOrder closeOrder bookFits linesFit allSpan openIn lineFits closedAt member noTwice allSpans owedFits modesFit sendingFits receivingFits sizes.sizesFit every slipOf slipOctets
+unfolding closedOnes resultOf acceptedResult effect order lineFor openOrder closeOrder bookFits linesFit allSpan openIn lineFits closedAt member noTwice allSpans owedFits modesFit sendingFits receivingFits maskOf setOf sizes.sizesFit every slipOf slipOctets
 row-9-free = refl
