@@ -6,18 +6,13 @@ use mathlib.Core.List.{List, [], _∷_, _++_}
 use lib.ListN.{length}
 use lib.Seq.{set-getD}
 use Rattle.ground.specs.Refusal.{Test, verdict, settle}
-use Rattle.ground.specs.Answer.{Answer, accepted, refused}
+use Rattle.ground.specs.Answer.{Answer, refused}
 use Rattle.ground.specs.declared.Refusal.{Refusal}
 use Rattle.ground.specs.declared.Verdict.{Verdict}
 use Rattle.ground.specs.declared.Verdict.the-variants.{Pass, Refuse}
-use Rattle.mode.specs.Acts.{Act, Outcome, outcome}
-use Rattle.mode.specs.Acts as act
-use Rattle.mode.specs.Indication.{hearStep}
-use Rattle.mode.specs.Request.{askStep}
-use Rattle.mode.specs.Recovery.{tickStep}
-use Rattle.mode.proofs.Tries.{answer-says}
+use Rattle.mode.specs.Acts.{Act, actTests, Outcome, outcome}
 use Rattle.mode.specs.declared.Modes.{Modes}
-use Rattle.mode.specs.declared.Channels.the-variants.{Stay}
+use Rattle.mode.proofs.Refusing.{settles}
 use Rattle.line.specs.Line.{closedLine}
 use Rattle.line.specs.Mode.{steppedTo}
 use Rattle.line.specs.declared.Line.{Line}
@@ -26,7 +21,7 @@ use Rattle.book.specs.declared.Book.{Book}
 use Rattle.calls.specs.Call.{Call}
 use Rattle.calls.specs.Call as call
 use Rattle.calls.specs.Order.{order, lineFor}
-use Rattle.calls.specs.Parts.{tests, fitBook, lineNumber, isOpen, actTests, modeTests}
+use Rattle.calls.specs.Parts.{tests, fitBook, lineNumber, isOpen, modeTests}
 use Rattle.calls.proofs.OrderParts.{order-parts}
 use Rattle.calls.proofs.Stops.{stops, goes-on}
 use Rattle.calls.specs.Result.{CallResult, resultWith, resultOf, acceptedResult, effect}
@@ -43,19 +38,6 @@ module _ (c : Call) (b : Book) (store out : List ℕ) where
   pub result-accepted : its ≡ Pass → resultOf c b store out ≡ acceptedResult c b store out
   unfolding resultOf
   result-accepted e = ap (λ (v : Verdict). settle v (λ r. resultWith (refused r) b store out) (acceptedResult c b store out)) e
-
--- What a mode call says by its verdict: a refusal and nothing changed, or its values.
-pub record Settles (m : Modes) (a : Act) (v : Verdict) : Type 0 where
-  pub taken : v ≡ Pass → outcome m a .said ≡ accepted (outcome m a .said .values)
-  pub said : (r : Refusal) → v ≡ Refuse r → outcome m a .said ≡ refused r
-  pub modes : (r : Refusal) → v ≡ Refuse r → outcome m a .modes ≡ m
-  pub channels : (r : Refusal) → v ≡ Refuse r → outcome m a .channels ≡ Stay
-
-pub settles : (m : Modes) (a : Act) → Settles m a (verdict (actTests m a))
-unfolding hearStep askStep tickStep
-settles m (act.hear k time) = record { taken = λ e. rw e; said = λ r e. rw e; modes = λ r e. rw e; channels = λ r e. rw e }
-settles m (act.ask k time) = record { taken = λ e. rw e; said = λ r e. rw e; modes = λ r e. rw e; channels = λ r e. rw e }
-settles m (act.tick time) = record { taken = λ e. rw (e, answer-says m time); said = λ r e. rw e; modes = λ r e. rw e; channels = λ r e. rw e }
 
 -- a line put back as it was leaves the book as it was
 pub same-line : (b : Book) (i : ℕ) → withLine b i (lineOf b i) ≡ b
@@ -91,7 +73,7 @@ module _ (b : Book) (i : ℕ) (a : Act) where
 
           go : (w : Verdict) → verdict (actTests m a) ≡ w → after store out ≡ resultOf (call.mode i a) b store out
           go Pass e = ap (λ (s : Answer). resultWith s (withLine b i (steppedTo (lineOf b i) (outcome m a .modes) (outcome m a .channels))) store out) (settles m a .taken e) ∙ sym (result-accepted (call.mode i a) b store out (its-modes ∙ e))
-          go (Refuse r) e = (λ t. resultWith (settles m a .said r e t) (withLine b i (steppedTo (lineOf b i) (settles m a .modes r e t) (settles m a .channels r e t))) store out) ∙ ap (λ (k : Book). resultWith (refused r) k store out) (same-line b i) ∙ sym (did-refused (call.mode i a) b store out (its-modes ∙ e))
+          go (Refuse r) e = (λ t. let o : Outcome = settles m a .refuses r e t in resultWith (o .said) (withLine b i (steppedTo (lineOf b i) (o .modes) (o .channels))) store out) ∙ ap (λ (k : Book). resultWith (refused r) k store out) (same-line b i) ∙ sym (did-refused (call.mode i a) b store out (its-modes ∙ e))
 
       -- the code reads the line, makes the step of its modes, and puts the line back
       pub mode-does : {l stepped : Line} {next : Book} {o : Outcome} → l ≡ lineOf b i → o ≡ outcome (l .modes) a → stepped ≡ steppedTo l (o .modes) (o .channels) → next ≡ withLine b i stepped

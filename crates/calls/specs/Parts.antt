@@ -9,12 +9,7 @@ use lib.ListN.{length}
 use Rattle.ground.specs.Refusal.{Test, must}
 use Rattle.ground.specs.declared.Refusal.the-variants.{NOLINE, ROOM, TAKEN, RANGE, BOOK}
 use Rattle.packet.specs.Read.{headTests}
-use Rattle.mode.specs.Acts.{Act}
-use Rattle.mode.specs.Acts as act
-use Rattle.mode.specs.Indication.{hearTests}
-use Rattle.mode.specs.Request.{askTests}
-use Rattle.mode.specs.Recovery.{tickTests}
-use Rattle.mode.specs.declared.Modes.{Modes}
+use Rattle.mode.specs.Acts.{Act, actTests}
 use Rattle.line.specs.Fit.{settingsFit}
 use Rattle.line.specs.declared.Line.{Line}
 use Rattle.line.specs.declared.Settings.{Settings}
@@ -52,11 +47,6 @@ unfoldable pub closeTests : Line → ℕ → List Test
 closeTests l space = isOpen l ∷ must (leb 12 space) ROOM ∷ []
 
 -- the mode calls
-abbrev pub actTests : Modes → Act → List Test
-actTests m (act.hear mode time) = hearTests m mode time
-actTests m (act.ask mode time) = askTests m mode time
-actTests m (act.tick time) = tickTests m time
-
 unfoldable pub modeTests : Line → Act → List Test
 modeTests l a = isOpen l ∷ actTests (l .modes) a
 

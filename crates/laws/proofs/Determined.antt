@@ -7,6 +7,8 @@ use mathlib.Core.List.{List, []}
 use Rattle.ground.specs.Answer.{Answer, writeSays}
 use Rattle.mode.specs.Acts as act
 use Rattle.mode.specs.Says.{hearSays, askSays, tickSays}
+use Rattle.mode.specs.Tries.{Tries}
+use Rattle.mode.proofs.Determine.{hearSays-once, askSays-once, tickSays-once}
 use Rattle.line.specs.declared.Settings.{Settings}
 use Rattle.book.specs.declared.Book.{Book}
 use Rattle.calls.specs.Call.{Call}
@@ -18,13 +20,12 @@ use Rattle.outgoing.specs.declared.Taken.{Taken}
 use Rattle.outgoing.specs.declared.HeldAnswer.{HeldAnswer}
 use Rattle.incoming.specs.Says.{arriveSays}
 use Rattle.incoming.specs.declared.Arrived.{Arrived}
-use Rattle.signals.specs.Tries.{Tries}
 use Rattle.signals.specs.declared.Heard.{Heard}
 use Rattle.signals.specs.declared.Asked.{Asked}
 use Rattle.signals.specs.declared.Ticked.{Ticked}
 use Rattle.gateway.specs.Says.{openSays}
 use Rattle.gateway.specs.declared.Opened.{Opened}
-use Rattle.laws.proofs.Answers.{openSays-once, writeSays-once, hearSays-once, askSays-once, tickSays-once, takeSays-once, arriveSays-once, heldSays-once}
+use Rattle.laws.proofs.Answers.{openSays-once, writeSays-once, takeSays-once, arriveSays-once, heldSays-once}
 
 -- what is made up of the same has the same parts
 record Alike (a c : Answer) (b d : Book) (s t o p : List ℕ) : Type 0 where

@@ -1,14 +1,17 @@
 pub mod Answers
 pub mod Called
+pub mod Determine
 pub mod Emptying
 pub mod Ending
 pub mod Fits
 pub mod Generation
 pub mod Givens
 pub mod Left
+pub mod NoRelay
 pub mod Permitted
 pub mod Recovering
 pub mod Refusing
 pub mod Steps
 pub mod Timing
 pub mod Tries
+pub mod TriesSaid

@@ -1,12 +1,16 @@
 -- "Each refusal returns its number alone and changes neither book nor any octet"; "every accepted mode call set[s] the line's last time".
 -- Assumes nothing.
 use Prim.Native.Nat.{ℕ, _<_}
-use mathlib.Core.Path.{_≡_, refl, ap}
+use mathlib.Core.Path.{_≡_, refl, sym, ap}
 use mathlib.Core.List.{[]}
 use native.Mathlib.Omega.{arith}
-use Rattle.ground.specs.Refusal.{verdict}
+use Rattle.ground.specs.Refusal.{numberOf, verdict}
+use Rattle.ground.specs.Answer.{Answer, accepted, refused}
+use Rattle.ground.specs.declared.Refusal.{Refusal}
+use Rattle.ground.specs.declared.Verdict.{Verdict}
+use Rattle.ground.specs.declared.Verdict.the-variants.{Pass, Refuse}
 use Rattle.ground.proofs.Numbers.{number-some}
-use Rattle.ground.proofs.Settled.{settled-by}
+use Rattle.ground.proofs.Settled.{settled-took}
 use Rattle.mode.specs.declared.Modes.{Modes}
 use Rattle.mode.specs.declared.Channels.the-variants.{Stay}
 use Rattle.mode.specs.declared.HearStep.{HearStep}
@@ -16,9 +20,7 @@ use Rattle.mode.specs.Moved.{moved, trying}
 use Rattle.mode.specs.Indication.{hearTests, heardModes, hearStep}
 use Rattle.mode.specs.Request.{askTests, askStep}
 use Rattle.mode.specs.Recovery.{tickTests, tickedModes, tickStep}
-use Rattle.ground.specs.Answer.{Answer}
-use Rattle.mode.specs.Says.{hearSays, askSays, tickSays}
-use Rattle.mode.specs.Acts.{Act, hear, ask, tick, Outcome, outcome, after, timeOf}
+use Rattle.mode.specs.Acts.{Act, hear, ask, tick, actTests, Outcome, outcome, after, timeOf}
 use Rattle.mode.proofs.Steps.{heard-by, ticked-by}
 use Rattle.mode.proofs.Tries.{answer-says}
 
@@ -28,16 +30,6 @@ pub record Unchanged (l : Modes) (o : Outcome) : Type 0 where
   pub channels : o .channels ≡ Stay
   pub alone : o .said .values ≡ []
 
--- an outcome says a refusal and changes nothing, or is accepted and bears the call's time
-abbrev Settles : Modes → ℕ → Outcome → Type 0
-Settles l time o = (0 < o .said .number → Unchanged l o) × (o .said .number ≡ 0 → o .modes .last ≡ time)
-
-refused-settles : (l : Modes) (time : ℕ) (o : Outcome) → Unchanged l o → 0 < o .said .number → Settles l time o
-refused-settles l time o u n = (λ e. u, λ e. absurd (omega arith))
-
-accepted-settles : (l : Modes) (time : ℕ) (o : Outcome) → o .said .number ≡ 0 → o .modes .last ≡ time → Settles l time o
-accepted-settles l time o z t = (λ e. absurd (omega arith), λ e. t)
-
 heard-last : (l : Modes) (k time : ℕ) → heardModes l k time .last ≡ time
 unfolding moved trying
 heard-last l k time = heard-by (λ n. n .last ≡ time) l k time (λ a b. refl) (λ a. refl)
@@ -46,28 +38,50 @@ ticked-last : (l : Modes) (time : ℕ) → tickedModes l time .last ≡ time
 unfolding moved trying
 ticked-last l time = ticked-by (λ n. n .last ≡ time) l time refl (λ a b c. refl) (λ a b c. refl) (λ a b. refl)
 
-settles : (l : Modes) (act : Act) → Settles l (timeOf act) (outcome l act)
+-- What a mode call does by its verdict: its values and the call's time, or a refusal and nothing changed.
+pub record Settles (l : Modes) (act : Act) (v : Verdict) : Type 0 where
+  pub taken : v ≡ Pass → outcome l act .said ≡ accepted (outcome l act .said .values)
+  pub timed : v ≡ Pass → after l act .last ≡ timeOf act
+  pub refuses : (r : Refusal) → v ≡ Refuse r → outcome l act ≡ record { said = refused r; modes = l; channels = Stay }
+
+pub settles : (l : Modes) (act : Act) → Settles l act (verdict (actTests l act))
 unfolding hearStep askStep tickStep moved
 settles l (hear k time) =
-    settled-by (λ (h : HearStep). Settles l time (record { said = hearSays (h .answer); modes = h .modes; channels = h .channels }))
-    (verdict (hearTests l k time))
-    (λ r e. refused-settles l time _ (record { modes = refl; channels = refl; alone = refl }) (number-some r))
-    (λ e. accepted-settles l time _ refl (heard-last l k time))
+    record {
+      taken = λ e. rw e;
+      timed = λ e. settled-took (λ (o : HearStep). o .modes .last ≡ time) (verdict (hearTests l k time)) _ e (heard-last l k time);
+      refuses = λ r e. rw e;
+    }
 settles l (ask k time) =
-    settled-by (λ (a : AskStep). Settles l time (record { said = askSays (a .answer); modes = a .modes; channels = a .channels }))
-    (verdict (askTests l k time))
-    (λ r e. refused-settles l time _ (record { modes = refl; channels = refl; alone = refl }) (number-some r))
-    (λ e. accepted-settles l time _ refl refl)
+    record {
+      taken = λ e. rw e;
+      timed = λ e. settled-took (λ (o : AskStep). o .modes .last ≡ time) (verdict (askTests l k time)) _ e refl;
+      refuses = λ r e. rw e;
+    }
 settles l (tick time) =
-    settled-by (λ (t : TickStep). Settles l time (record { said = tickSays (t .answer); modes = t .modes; channels = t .channels }))
-    (verdict (tickTests l time))
-    (λ r e. refused-settles l time _ (record { modes = refl; channels = refl; alone = refl }) (number-some r))
-    (λ e. accepted-settles l time _ (ap (λ (s : Answer). s .number) (answer-says l time)) (ticked-last l time))
+    record {
+      taken = λ e. rw (e, answer-says l time);
+      timed = λ e. settled-took (λ (o : TickStep). o .modes .last ≡ time) (verdict (tickTests l time)) _ e (ticked-last l time);
+      refuses = λ r e. rw e;
+    }
 
--- THE PROMISE: a refusal changes nothing and says its number alone
-pub refusal-changes-nothing : (l : Modes) (act : Act) → 0 < outcome l act .said .number → Unchanged l (outcome l act)
-refusal-changes-nothing l act = settles l act .0
+-- by its number an answer says which of the two it is
+module _ (l : Modes) (act : Act) where
+  by-number : (P : Type 0) (v : Verdict) → v ≡ verdict (actTests l act) →
+      (verdict (actTests l act) ≡ Pass → outcome l act .said .number ≡ 0 → P) →
+      ((r : Refusal) → outcome l act ≡ record { said = refused r; modes = l; channels = Stay } → 0 < outcome l act .said .number → P) → P
+  by-number P Pass e taken refuses = taken (sym e) (ap (λ (a : Answer). a .number) (settles l act .taken (sym e)))
+  by-number P (Refuse r) e taken refuses =
+      let o = settles l act .refuses r (sym e) in
+      let n : outcome l act .said .number ≡ numberOf r = ap (λ (x : Outcome). x .said .number) o in
+      refuses r o (omega (arith, n, number-some r))
 
--- every accepted call sets the line's last time
-pub accepted-sets-time : (l : Modes) (act : Act) → outcome l act .said .number ≡ 0 → after l act .last ≡ timeOf act
-accepted-sets-time l act = settles l act .1
+  -- THE PROMISE: a refusal changes nothing and says its number alone
+  pub refusal-changes-nothing : 0 < outcome l act .said .number → Unchanged l (outcome l act)
+  refusal-changes-nothing some =
+      by-number (Unchanged l (outcome l act)) _ refl (λ p z. absurd (omega arith))
+      (λ r o n. record { modes = ap (λ (x : Outcome). x .modes) o; channels = ap (λ (x : Outcome). x .channels) o; alone = ap (λ (x : Outcome). x .said .values) o })
+
+  -- every accepted call sets the line's last time
+  pub accepted-sets-time : outcome l act .said .number ≡ 0 → after l act .last ≡ timeOf act
+  accepted-sets-time none = by-number (after l act .last ≡ timeOf act) _ refl (λ p z. settles l act .timed p) (λ r o n. absurd (omega arith))

@@ -26,7 +26,7 @@ use Rattle.mode.specs.Indication.{hearTests, heardMode, heardModes, hear
 use Rattle.mode.specs.Request.{askTests, askStep}
 use Rattle.mode.specs.Recovery.{tickTests, due, tickedModes, tickedAnswer, tickStep}
 use Rattle.mode.proofs.Tries.{ended-rests, due-first, due-next}
-use Rattle.mode.specs.Acts.{Act, hear, ask, tick, after, run}
+use Rattle.mode.specs.Acts.{Act, hear, ask, tick, after, run, timeOf}
 
 -- what an accepted indication, request or tick has shown
 pub record Heard (l : Modes) (k time : ℕ) : Type 0 where
@@ -173,3 +173,13 @@ pub ticked-by : (P : Modes → Type 0) (l : Modes) (time : ℕ) →
     (l .tries ≡ 5 → 1000 ≤ time - l .tried → P (trying (moved l (l .local) (l .remote) time) 6 (l .tried))) →
     P (tickedModes l time)
 ticked-by P l time stays first more last = tick-cases (λ t n. P n) l time (λ d r. stays) (λ o. stays) first more last
+
+-- what holds after every move at a time, whatever the tries, holds after every call that names that time
+module _ (P : Modes → Type 0) (l : Modes) (same : P l) where
+  pub moves-by : (act : Act) →
+      ((s r : ℕ) → P (moved l s r (timeOf act))) →
+      ((s r n tried : ℕ) → P (trying (moved l s r (timeOf act)) n tried)) →
+      P (after l act)
+  moves-by (hear k time) m t = hear-by P l same k time (λ e. heard-by P l k time (λ a b. t _ _ 0 0) (λ a. m _ _))
+  moves-by (ask k time) m t = ask-by P l same k time (λ e. m k (l .remote))
+  moves-by (tick time) m t = tick-by P l same time (λ e. ticked-by P l time (m _ _) (λ a b c. t _ _ 1 time) (λ a b c. t _ _ _ time) (λ a b. t _ _ 6 _))

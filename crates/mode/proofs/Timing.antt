@@ -6,14 +6,8 @@ use mathlib.Core.List.{List, [], _∷_}
 use borrow.Author.Tests.{eq-eqb, ne-eqb}
 use Rattle.mode.specs.declared.Modes.{Modes}
 use Rattle.mode.specs.Moved.{timed, moved, trying}
-use Rattle.mode.specs.Acts.{Act, hear, ask, tick, after, run, timeOf}
-use Rattle.mode.proofs.Steps.{hear-by, ask-by, tick-by, heard-by, ticked-by}
-
-abbrev pub Agree : Modes → Type 0
-Agree l = l .local ≡ l .remote
-
-abbrev pub Differ : Modes → Type 0
-Differ l = Agree l → ⊥
+use Rattle.mode.specs.Acts.{Act, after, run, timeOf, Agree, Differ, Apart}
+use Rattle.mode.proofs.Steps.{moves-by}
 
 -- what `since` says after a move, in the four cases
 module _ (l : Modes) (s r time : ℕ) where
@@ -32,16 +26,6 @@ module _ (l : Modes) (s r time : ℕ) where
   untouched : Agree l → s ≡ r → timed l s r time ≡ l .since
   unfolding timed
   untouched a d = rw (eq-eqb (l .local) (l .remote) a, eq-eqb s r d)
-
--- what holds after every move at a time, whatever the tries, holds after every call that names that time
-module _ (P : Modes → Type 0) (l : Modes) (same : P l) where
-  moves-by : (act : Act) →
-      ((s r : ℕ) → P (moved l s r (timeOf act))) →
-      ((s r n tried : ℕ) → P (trying (moved l s r (timeOf act)) n tried)) →
-      P (after l act)
-  moves-by (hear k time) m t = hear-by P l same k time (λ e. heard-by P l k time (λ a b. t _ _ 0 0) (λ a. m _ _))
-  moves-by (ask k time) m t = ask-by P l same k time (λ e. m k (l .remote))
-  moves-by (tick time) m t = tick-by P l same time (λ e. ticked-by P l time (m _ _) (λ a b c. t _ _ 1 time) (λ a b c. t _ _ _ time) (λ a b. t _ _ 6 _))
 
 -- a call that makes the modes differ times the difference from itself
 pub begins : (l : Modes) → Agree l → (act : Act) → Differ (after l act) → after l act .since ≡ timeOf act
@@ -70,11 +54,6 @@ unfolding moved trying
 untouched-step l a act d =
     moves-by (λ n. Agree n → n .since ≡ l .since) l (λ h. refl) act
     (λ s r h. untouched l s r _ a h) (λ s r n t h. untouched l s r _ a h) d
-
--- the modes differ after each of the calls
-abbrev pub Apart : Modes → List Act → Type 0
-Apart l [] = Unit
-Apart l (act ∷ acts) = Differ (after l act) × Apart (after l act) acts
 
 pub goes-on-run : (l : Modes) → Differ l → (acts : List Act) → Apart l acts → run l acts .since ≡ l .since
 unfolding run

@@ -8,3 +8,4 @@ pub mod Says
 pub mod Acts
 pub mod TableC2
 pub mod Generation
+pub mod Tries

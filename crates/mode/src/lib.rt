@@ -1,19 +1,10 @@
 // The media modes of one line, by value: the record, the steps that it is changed by, and what a mode call gives.
 // It follows RULES 9.1 to RULES 9.14 and RULES 10.1 to RULES 10.12 (V.150.1, C.5.3 and C.5.4.1). What an indication, a request and a
-// tick make of the record is defined in specs/; the calls stand in indication.rt, request.rt and recovery.rt. Each gives its answer,
-// the next modes, and what is to become of the line's channels, which `line` carries out. NOLINE is refused in `calls`.
+// tick make of the record is defined in specs/, and the laws of any sequence of them stand in proofs/; `moves` has the calls.
 ghost use mathlib.Core.Path.{_≡_};
 ghost use Rattle.mode.specs.Moved.{openedModes, closedModes, enters, leaves, channelsFor, timed, moved, trying, stayed, ended};
 ghost use Rattle.mode.specs.Fit.{modesFit};
 use ground::Refusal;
-
-mod indication; // indication.rt: an indication heard
-mod recovery; // recovery.rt: a tick, and recovery by the clock
-mod request; // request.rt: a local request
-
-pub use indication::hear;
-pub use recovery::tick;
-pub use request::ask;
 
 // What a line remembers of its media modes.
 pub struct Modes {

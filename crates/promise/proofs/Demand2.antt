@@ -26,7 +26,8 @@ use Rattle.book.proofs.OtherLines.{line-same}
 use Rattle.calls.specs.Call as call
 use Rattle.calls.specs.Parts.{fitBook, lineNumber, isOpen}
 use Rattle.calls.specs.Result.{CallResult}
-use Rattle.calls.proofs.Results.{settles, moved-did}
+use Rattle.mode.proofs.Refusing.{settles}
+use Rattle.calls.proofs.Results.{moved-did}
 use Rattle.line.specs.Mode.{steppedTo}
 use Rattle.promise.specs.Build.{ours}
 use Rattle.promise.specs.Run.{Gateway, accepts, lineAt, Relays}

@@ -5,9 +5,9 @@ ghost use mathlib.Core.Path.{_≡_};
 ghost use mathlib.Core.List.{List};
 ghost use Rattle.mode.specs.Acts as act;
 ghost use Rattle.mode.specs.Says.{hearSays, askSays, tickSays};
+ghost use Rattle.mode.specs.Tries.{Tries};
 ghost use Rattle.calls.specs.Call as call;
 ghost use Rattle.calls.specs.Result.{resultWith, resultOf};
-ghost use Rattle.signals.specs.Tries.{Tries};
 use book::Book;
 use ground::Verdict;
 use mode::AskAnswer;
@@ -42,7 +42,7 @@ pub fn hear(book: Book, line: u8, mode: u8, time: u64) -> Heard
         },
         Verdict::Pass => {
             let l = book.line(line);
-            let heard = mode::hear(l.modes, mode, time);
+            let heard = moves::hear(l.modes, mode, time);
             let answer = heard.answer;
             let channels = heard.channels;
             let stepped = l.stepped(heard.modes, channels);
@@ -64,7 +64,7 @@ pub fn ask(book: Book, line: u8, mode: u8, time: u64) -> Asked
         },
         Verdict::Pass => {
             let l = book.line(line);
-            let asked = mode::ask(l.modes, mode, time);
+            let asked = moves::ask(l.modes, mode, time);
             let answer = asked.answer;
             let channels = asked.channels;
             let stepped = l.stepped(asked.modes, channels);
@@ -87,7 +87,7 @@ pub fn tick(book: Book, line: u8, time: u64) -> Ticked
         },
         Verdict::Pass => {
             let l = book.line(line);
-            let ticked = mode::tick(l.modes, time);
+            let ticked = moves::tick(l.modes, time);
             let answer = ticked.answer;
             let channels = ticked.channels;
             let stepped = l.stepped(ticked.modes, channels);

@@ -1,8 +1,6 @@
 use Rattle.calls.proofs.Results.{mode-refused, mode-does}
 use Rattle.calls.proofs.FirstTests.{asked-open}
-use Rattle.mode.specs.declared.AskStep.{AskStep}
-use Rattle.mode.specs.Says.{askSays}
-use Rattle.mode.specs.Acts.{Outcome}
+use Rattle.mode.specs.Acts.{askOutcome}
 use Rattle.mode.specs.Acts as act
 use mathlib.Core.Path.{ap}
 use borrow.Author.Needs.{needs}
@@ -30,9 +28,6 @@ stepped-requires c κs = search needs
 with-line-requires : tie.Need-with-line-requires
 with-line-requires c κs = let a = c .before .before .before .before .before .before .args in asked-open (a .book) (a .line) (c .before .before .before .before .before .open-line-verdict .ensures) (c .before .before .before .enum-told .given .1) .number
 
-abbrev said : AskStep → Outcome
-said h = record { said = askSays (h .answer); modes = h .modes; channels = h .channels }
-
 returns : tie.Need-returns
 returns c = let a = c .before .before .before .before .args in mode-refused (a .book) (a .line) (act.ask (a .mode) (a .time)) (c .before .before .before .open-line-verdict .ensures) (c .before .verdict .given .1)
 
@@ -40,7 +35,7 @@ returns-2 : tie.Need-returns-2
 returns-2 c =
     let a = c .before .before .before .before .before .before .before .args in
     mode-does (a .book) (a .line) (act.ask (a .mode) (a .time)) (c .before .before .before .before .before .before .open-line-verdict .ensures) (c .before .before .before .before .enum-told .given .1) (c .before .before .before .line .ensures)
-    (ap (λ (h : AskStep). said h) (c .before .before .ask .ensures .0)) (c .before .stepped .ensures) (c .with-line .ensures)
+    (ap askOutcome (c .before .before .ask .ensures .0)) (c .before .stepped .ensures) (c .with-line .ensures)
 
 pub ask-spec : {M : Type 1} → statement M
 ask-spec =

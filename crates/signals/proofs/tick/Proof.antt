@@ -1,10 +1,9 @@
-use Rattle.signals.specs.Tries.{Tries}
-use Rattle.signals.proofs.Tries.{tick-tries}
+use Rattle.mode.specs.Tries.{Tries}
+use Rattle.mode.proofs.TriesSaid.{tick-tries}
 use Rattle.calls.proofs.Results.{mode-refused, mode-does}
 use Rattle.calls.proofs.FirstTests.{asked-open}
 use Rattle.mode.specs.declared.TickStep.{TickStep}
-use Rattle.mode.specs.Says.{tickSays}
-use Rattle.mode.specs.Acts.{Outcome}
+use Rattle.mode.specs.Acts.{tickOutcome}
 use Rattle.mode.specs.Acts as act
 use mathlib.Core.Path.{sym, ap, subst}
 use borrow.Author.Needs.{needs}
@@ -32,9 +31,6 @@ stepped-requires c κs = search needs
 with-line-requires : tie.Need-with-line-requires
 with-line-requires c κs = let a = c .before .before .before .before .before .before .args in asked-open (a .book) (a .line) (c .before .before .before .before .before .open-line-verdict .ensures) (c .before .before .before .enum-told .given .1) .number
 
-abbrev said : TickStep → Outcome
-said h = record { said = tickSays (h .answer); modes = h .modes; channels = h .channels }
-
 returns : tie.Need-returns
 returns c = let a = c .before .before .before .before .args in (mode-refused (a .book) (a .line) (act.tick (a .time)) (c .before .before .before .open-line-verdict .ensures) (c .before .verdict .given .1), tt)
 
@@ -42,7 +38,7 @@ returns-2 : tie.Need-returns-2
 returns-2 c =
     let a = c .before .before .before .before .before .before .before .args in (
       mode-does (a .book) (a .line) (act.tick (a .time)) (c .before .before .before .before .before .before .open-line-verdict .ensures) (c .before .before .before .before .enum-told .given .1) (c .before .before .before .line .ensures)
-          (ap (λ (h : TickStep). said h) (c .before .before .tick .ensures .0)) (c .before .stepped .ensures) (c .with-line .ensures),
+          (ap tickOutcome (c .before .before .tick .ensures .0)) (c .before .stepped .ensures) (c .with-line .ensures),
       subst (λ (t : TickStep). Tries (t .answer)) (sym (c .before .before .tick .ensures .0)) (tick-tries (c .before .before .before .line .result .modes) (a .time)),
     )
 
