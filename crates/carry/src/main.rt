@@ -4,33 +4,40 @@
 // `carry COUNT OCTETS WHAT`, where WHAT is `carry`, or `check`, the same with one refused call more before each call; or `bare`,
 // the program's own work without a call; or `still` or `full`, COUNT refused calls on a book that holds nothing, or whose windows
 // and owed lists are full.
-ghost use Prim.Native.Nat.{_≤_};
 use book::Book;
 use gateway::HeldAnswer;
+use gateway::Written;
 use ground::WriteAnswer;
 use line::Settings;
 use mode::Modes;
 use words::Number;
 
-// Two gateways, and what was counted: messages that came as they were taken, their octets, and calls that were refused RANGE.
-struct Work {
+// What is asked of a run, as the third argument's table has it.
+const CHECK: u8 = 1;
+
+const BARE: u8 = 2;
+
+const STILL: u8 = 3;
+
+const FULL: u8 = 4;
+
+// What is counted: messages that came as they were taken, their octets, and calls that were refused RANGE.
+const CARRIED: usize = 0;
+
+const OCTETS: usize = 1;
+
+const REFUSED: usize = 2;
+
+// How many octets each message has, and whether each call is preceded by a refused one.
+struct Run {
+    size: usize,
+    check: bool,
+}
+
+// The books of two gateways.
+struct Books {
     a: Book,
     b: Book,
-    carried: u64,
-    octets: u64,
-    refused: u64,
-}
-
-// What is asked of a run: whether each call is preceded by a refused one, and whether no call is made.
-struct Run {
-    check: bool,
-    bare: bool,
-}
-
-// Two gateways after a message was handed out, and its size.
-struct Given {
-    work: Work,
-    size: usize,
 }
 
 // A count with n more, as far as it goes.
@@ -56,219 +63,201 @@ fn opened(book: Book, line: u8) -> Book {
 
 // A book of four lines in modem relay.
 fn ready() -> Book {
-    let fresh = gateway::fresh();
-    let one = opened(fresh, 0);
-    let two = opened(one, 1);
-    let three = opened(two, 2);
-    opened(three, 3)
+    let mut book = gateway::fresh();
+    book = opened(book, 0);
+    book = opened(book, 1);
+    book = opened(book, 2);
+    opened(book, 3)
 }
 
-// Counts one more where a call is refused right after BOOK, because there is no line 9. Makes no call where none is asked for.
-fn refused(book: Book, asked: bool, count: u64) -> u64 {
-    if !asked {
-        return count;
+// Is it a refusal RANGE?
+fn is_range(answer: HeldAnswer) -> bool {
+    match answer {
+        HeldAnswer::Refused(r) => ground::number(r) == 13,
+        HeldAnswer::Holds(_) => false,
     }
-    let report = gateway::held(book, 9, 1);
-    match report {
-        HeldAnswer::Refused(r) => {
-            if ground::number(r) == 13 {
-                more(count, 1)
-            } else {
-                count
-            }
-        }
-        HeldAnswer::Holds(_) => count,
+}
+
+// Makes a call that is refused right after BOOK, because there is no line 9, and counts it.
+fn refused(book: Book, counts: &mut [u64; 3]) {
+    if is_range(gateway::held(book, 9, 1)) {
+        counts[REFUSED] = more(counts[REFUSED], 1);
     }
+}
+
+// The same before another call, where the run asks for it.
+fn checked(book: Book, check: bool, counts: &mut [u64; 3]) {
+    if check {
+        refused(book, counts);
+    }
+}
+
+// An octet of the message of a number.
+fn octet(number: u64, i: usize) -> u8 {
+    ((number ^ i as u64) % 256) as u8
 }
 
 // The message of a number.
 fn fill(message: &mut [u8], number: u64) {
     let mut i = 0;
     while i < message.len() {
-        message[i] = ((number ^ i as u64) & 255) as u8;
+        message[i] = octet(number, i);
         i += 1;
     }
 }
 
-// Are the octets of the two the same? All are looked at, whatever they are.
-fn alike(one: &[u8], other: &[u8]) -> bool {
-    if one.len() != other.len() {
-        return false;
-    }
+// Are the octets those of the message of a number? All are looked at, whatever they are.
+fn alike(out: &[u8], number: u64) -> bool {
     let mut differ = 0;
     let mut i = 0;
-    while i < one.len() {
-        differ |= one[i] ^ other[i];
+    while i < out.len() {
+        differ |= out[i] ^ octet(number, i);
         i += 1;
     }
     differ == 0
 }
 
-// A message is taken at A, written there as a packet, and arrives at B.
-fn there(
-    work: Work,
-    check: bool,
-    a: &mut [u8],
-    b: &mut [u8],
-    message: &[u8],
-    packet: &mut [u8],
-) -> Work {
-    let first = refused(work.a, check, work.refused);
-    let took = gateway::take(work.a, a, 0, 1, message);
-    let second = refused(took.book, check, first);
-    let gave = gateway::send(took.book, a, 0, 1, 0, packet);
-    let answer = gave.answer;
+// How many octets a call has written.
+fn written(answer: WriteAnswer) -> usize {
     match answer {
-        WriteAnswer::Refused(_) => work,
-        WriteAnswer::Wrote(n) => {
-            if packet.len() < n {
-                return work;
-            }
-            let third = refused(work.b, check, second);
-            let came = gateway::arrive(work.b, b, &packet[0..n]);
-            let next = gave.book;
-            let far = came.book;
-            Work {
-                a: next,
-                b: far,
-                refused: third,
-                ..work
-            }
-        }
+        WriteAnswer::Refused(_) => 0,
+        WriteAnswer::Wrote(n) => n,
     }
 }
 
-// The empty packet that acknowledges a message is written at B and arrives at A.
-fn heard(work: Work, check: bool, a: &mut [u8], packet: &mut [u8]) -> Work {
-    let first = refused(work.b, check, work.refused);
-    let gave = gateway::empty(work.b, 0, 1, packet);
-    let answer = gave.answer;
-    match answer {
-        WriteAnswer::Refused(_) => work,
-        WriteAnswer::Wrote(n) => {
-            if packet.len() < n {
-                return work;
-            }
-            let second = refused(work.a, check, first);
-            let came = gateway::arrive(work.a, a, &packet[0..n]);
-            let far = gave.book;
-            let next = came.book;
-            Work {
-                a: next,
-                b: far,
-                refused: second,
-                ..work
-            }
-        }
+// Counts a message of that size where it was handed out as it was taken.
+fn judge(out: &[u8], given: WriteAnswer, number: u64, size: usize, counts: &mut [u64; 3]) {
+    if out.len() < size {
+        return;
+    }
+    let same = alike(&out[0..size], number);
+    if same & (written(given) == size) {
+        counts[CARRIED] = more(counts[CARRIED], 1);
+        counts[OCTETS] = more(counts[OCTETS], size as u64);
     }
 }
 
-// A message is handed out at B.
-fn handed(work: Work, check: bool, b: &[u8], out: &mut [u8]) -> Given {
-    let count = refused(work.b, check, work.refused);
-    let gave = gateway::hand_out(work.b, b, 0, 1, out);
-    let answer = gave.answer;
-    match answer {
-        WriteAnswer::Refused(_) => Given { work, size: 0 },
-        WriteAnswer::Wrote(size) => {
-            let far = gave.book;
-            Given {
-                work: Work {
-                    b: far,
-                    refused: count,
-                    ..work
-                },
-                size,
-            }
-        }
+// Takes the message of a number.
+fn take(book: Book, store: &mut [u8], number: u64, size: usize) -> Book {
+    if 132 < size {
+        return book;
     }
+    let mut message = [0u8; 132];
+    fill(&mut message, number);
+    let took = gateway::take(book, store, 0, 1, &message[0..size]);
+    took.book
 }
 
-// A message goes from A to B, is handed out there, and A hears of it. Makes no call where none is asked for.
-fn across(
-    work: Work,
+// A packet arrives, as it was written.
+fn arrive(book: Book, store: &mut [u8], packet: &[u8], sent: WriteAnswer) -> Book {
+    let n = written(sent);
+    if packet.len() < n {
+        return book;
+    }
+    let came = gateway::arrive(book, store, &packet[0..n]);
+    came.book
+}
+
+// Hands out a message, and counts it where it is that of the number.
+fn hand_out(book: Book, store: &[u8], number: u64, size: usize, counts: &mut [u64; 3]) -> Book {
+    let mut out = [0u8; 132];
+    let gave = gateway::hand_out(book, store, 0, 1, &mut out);
+    let answer = gave.answer;
+    judge(&out, answer, number, size, counts);
+    gave.book
+}
+
+// At A a message is taken, and written as a packet.
+fn depart(
+    mut book: Book,
     run: Run,
-    a: &mut [u8],
-    b: &mut [u8],
-    message: &[u8],
+    number: u64,
+    store: &mut [u8],
     packet: &mut [u8],
-    out: &mut [u8],
-) -> Given {
-    if run.bare {
-        return Given { work, size: 0 };
-    }
-    let over = there(work, run.check, a, b, message, packet);
-    let gave = handed(over, run.check, b, out);
-    let next = heard(gave.work, run.check, a, packet);
-    Given {
-        work: next,
-        size: gave.size,
-    }
+    counts: &mut [u64; 3],
+) -> Written {
+    checked(book, run.check, counts);
+    book = take(book, store, number, run.size);
+    checked(book, run.check, counts);
+    gateway::send(book, store, 0, 1, 0, packet)
 }
 
-// Carries the message of a number, and counts it where it came as it was taken.
+// At B the packet arrives, the message is handed out, and an empty packet is written that acknowledges it.
+fn land(
+    mut book: Book,
+    run: Run,
+    number: u64,
+    store: &mut [u8],
+    packet: &mut [u8],
+    sent: WriteAnswer,
+    counts: &mut [u64; 3],
+) -> Written {
+    checked(book, run.check, counts);
+    book = arrive(book, store, packet, sent);
+    checked(book, run.check, counts);
+    book = hand_out(book, store, number, run.size, counts);
+    checked(book, run.check, counts);
+    gateway::empty(book, 0, 1, packet)
+}
+
+// At A that packet arrives.
+fn hear(
+    book: Book,
+    run: Run,
+    store: &mut [u8],
+    packet: &[u8],
+    sent: WriteAnswer,
+    counts: &mut [u64; 3],
+) -> Book {
+    checked(book, run.check, counts);
+    arrive(book, store, packet, sent)
+}
+
+// Carries the message of a number from A to B.
 fn turn(
-    work: Work,
+    books: Books,
     run: Run,
     number: u64,
     a: &mut [u8],
     b: &mut [u8],
-    message: &mut [u8],
-    packet: &mut [u8],
-    out: &mut [u8],
-) -> Work {
-    fill(message, number);
-    let gave = across(work, run, a, b, message, packet, out);
-    let next = gave.work;
-    let size = gave.size;
-    if !alike(message, out) {
-        return next;
-    }
-    if size != out.len() {
-        return next;
-    }
-    Work {
-        carried: more(next.carried, 1),
-        octets: more(next.octets, size as u64),
-        ..next
-    }
+    counts: &mut [u64; 3],
+) -> Books {
+    let mut packet = [0u8; 144];
+    let sent = depart(books.a, run, number, a, &mut packet, counts);
+    let answer = sent.answer;
+    let heard = land(books.b, run, number, b, &mut packet, answer, counts);
+    let answer = heard.answer;
+    let near = hear(sent.book, run, a, &packet, answer, counts);
+    let far = heard.book;
+    Books { a: near, b: far }
 }
 
-// Carries that many messages, each as long as `message`.
-fn carried(
-    run: Run,
-    count: u64,
-    a: &mut [u8],
-    b: &mut [u8],
-    message: &mut [u8],
-    packet: &mut [u8],
-    out: &mut [u8],
-) -> Work {
+// Carries that many messages.
+fn carry(count: u64, run: Run, a: &mut [u8], b: &mut [u8], counts: &mut [u64; 3]) {
     let book = ready();
-    let mut work = Work {
-        a: book,
-        b: book,
-        carried: 0,
-        octets: 0,
-        refused: 0,
-    };
-    let mut i = 0;
-    while i < count {
-        work = turn(work, run, i, a, b, message, packet, out);
-        i += 1;
+    let mut books = Books { a: book, b: book };
+    let mut left = count;
+    while 0 < left {
+        books = turn(books, run, left, a, b, counts);
+        left -= 1;
     }
-    work
 }
 
-// How many of that many calls are refused right after BOOK.
-fn refusals(book: Book, count: u64) -> u64 {
-    let mut n = 0;
-    let mut i = 0;
-    while i < count {
-        n = refused(book, true, n);
-        i += 1;
+// The program's own work for the message of a number.
+fn without_calls(number: u64, size: usize, counts: &mut [u64; 3]) {
+    let mut message = [0u8; 132];
+    fill(&mut message, number);
+    let out = [0u8; 132];
+    judge(&out, WriteAnswer::Wrote(0), number, size, counts);
+}
+
+// Does the program's own work for that many messages.
+fn bare(count: u64, size: usize, counts: &mut [u64; 3]) {
+    let mut left = count;
+    while 0 < left {
+        without_calls(left, size, counts);
+        left -= 1;
     }
-    n
 }
 
 // A message of a line's channel is taken, and one of that number arrives. `marked` is the channel in a packet's third octet.
@@ -280,23 +269,41 @@ fn filled(book: Book, store: &mut [u8], line: u8, channel: u8, marked: u8, numbe
 }
 
 // The same on both channels of a line, where channel 2 has a place for the number.
-fn both_filled(book: Book, store: &mut [u8], line: u8, number: u8) -> Book {
-    let one = filled(book, store, line, 1, 0x40, number);
+fn both_filled(mut book: Book, store: &mut [u8], line: u8, number: u8) -> Book {
+    book = filled(book, store, line, 1, 0x40, number);
     if 7 < number {
-        return one;
+        return book;
     }
-    filled(one, store, line, 2, 0x80, number)
+    filled(book, store, line, 2, 0x80, number)
 }
 
 // A book whose windows are all full, and that owes 64 numbers on each line: 32 and 24 old ones of channel 1, and 8 of channel 2.
-fn full(store: &mut [u8]) -> Book {
-    let mut book = ready();
-    let mut i = 0;
-    while i < 224 {
-        book = both_filled(book, store, i & 3, i >> 2);
-        i += 1;
+fn full(mut book: Book, store: &mut [u8]) -> Book {
+    let mut left = 224u8;
+    while 0 < left {
+        left -= 1;
+        book = both_filled(book, store, left & 3, 55 - (left >> 2));
     }
     book
+}
+
+// The book that refused calls are made on.
+fn still(what: u8, store: &mut [u8]) -> Book {
+    let book = ready();
+    if what == FULL {
+        return full(book, store);
+    }
+    book
+}
+
+// Makes that many calls that are refused right after BOOK.
+fn refusals(count: u64, what: u8, store: &mut [u8], counts: &mut [u64; 3]) {
+    let book = still(what, store);
+    let mut left = count;
+    while 0 < left {
+        refused(book, counts);
+        left -= 1;
+    }
 }
 
 // The number that an argument says, or else that one.
@@ -310,87 +317,60 @@ fn argument(i: usize, other: u64) -> u64 {
     }
 }
 
-// How many octets of a message's slot are lent.
-fn lent(asked: u64) -> usize
-    ensures { λ r. ⌜ r ≤ 132 ⌝ }
-{
+// What the third argument asks for; 0, to carry, where it is none of these words.
+fn asked() -> u8 {
+    let mut word = [0u8; 8];
+    let n = os::arg(3, &mut word);
+    let mut none = [0u8; 0];
+    let said = words::call(
+        &word[0..n],
+        0,
+        b"carry . check . bare . still . full .",
+        &mut none,
+    );
+    said.call
+}
+
+// The size that is asked for, or the largest.
+fn sized(asked: u64) -> usize {
     if 132 < asked {
         return 132;
     }
     asked as usize
 }
 
-// Says what was counted.
-fn say(work: Work, count: u64, size: usize) {
-    let mut out = [0u8; 200];
-    let a = words::put(&mut out, 0, b"carried");
-    let b = words::decimal(&mut out, a, work.carried);
-    let c = words::put(&mut out, b, b" of");
-    let d = words::decimal(&mut out, c, count);
-    let e = words::put(&mut out, d, b" messages of");
-    let f = words::decimal(&mut out, e, size as u64);
-    let g = words::put(&mut out, f, b" octets,");
-    let h = words::decimal(&mut out, g, work.octets);
-    let i = words::put(&mut out, h, b" octets,");
-    let j = words::decimal(&mut out, i, work.refused);
-    let k = words::put(&mut out, j, b" calls refused\n");
-    if k <= 200 {
-        io::write_all(libc::STDOUT_FILENO, &out[0..k]);
+// Says a text, and a number after it.
+fn say(text: &[u8], n: u64) {
+    let mut digits = [0u8; 21];
+    let count = words::decimal(&mut digits, 0, n);
+    io::write_all(libc::STDOUT_FILENO, text);
+    if count <= 21 {
+        io::write_all(libc::STDOUT_FILENO, &digits[0..count]);
     }
 }
 
-// Makes the run that the third argument names, with messages as long as `message`.
-fn made(
-    count: u64,
-    a: &mut [u8],
-    b: &mut [u8],
-    message: &mut [u8],
-    packet: &mut [u8],
-    out: &mut [u8],
-) -> Work {
-    let mut word = [0u8; 8];
-    let n = os::arg(3, &mut word);
-    let what = &word[0..n];
-    let whole = words::same(what, b"full");
-    let still = words::same(what, b"still");
-    let messages = if whole | still { 0 } else { count };
-    let run = Run {
-        check: words::same(what, b"check"),
-        bare: words::same(what, b"bare"),
-    };
-    let work = carried(run, messages, a, b, message, packet, out);
-    if whole {
-        let book = full(a);
-        return Work {
-            refused: refusals(book, count),
-            ..work
-        };
-    }
-    if still {
-        return Work {
-            refused: refusals(work.a, count),
-            ..work
-        };
-    }
-    work
+// Says what was counted, of so many messages of so many octets.
+fn tell(counts: [u64; 3], count: u64, size: usize) {
+    say(b"carried", counts[CARRIED]);
+    say(b" of", count);
+    say(b" messages of", size as u64);
+    say(b" octets,", counts[OCTETS]);
+    say(b" octets,", counts[REFUSED]);
+    io::write_all(libc::STDOUT_FILENO, b" calls refused\n");
 }
 
 fn main() {
     let mut a = [0u8; 42240];
     let mut b = [0u8; 42240];
-    let mut message = [0u8; 132];
-    let mut packet = [0u8; 144];
-    let mut out = [0u8; 132];
+    let mut counts = [0u64; 3];
     let count = argument(1, 1000);
-    let asked = argument(2, 132);
-    let size = lent(asked);
-    let work = made(
-        count,
-        &mut a,
-        &mut b,
-        &mut message[0..size],
-        &mut packet,
-        &mut out[0..size],
-    );
-    say(work, count, size);
+    let size = sized(argument(2, 132));
+    let what = asked();
+    let check = what == CHECK;
+    match what {
+        STILL | FULL => refusals(count, what, &mut a, &mut counts),
+        BARE => bare(count, size, &mut counts),
+        _ => carry(count, Run { size, check }, &mut a, &mut b, &mut counts),
+    }
+    tell(counts, count, size);
 }

@@ -41,70 +41,114 @@ fn ready() -> Book {
     asked.book
 }
 
+// The text of a message.
+fn text(n: u8) -> [u8; 17] {
+    let mut text = *b"level 2: 10 cars\n";
+    text[9] = b'1' + n / 10;
+    text[10] = b'0' + n % 10;
+    text
+}
+
+// Was a message taken? A refusal is printed. What is said of an answer stands in functions without a book, which are proved faster.
+fn was_taken(answer: TakeAnswer) -> bool {
+    match answer {
+        TakeAnswer::Refused(r) => {
+            say(ground::number(r), b" refuses a message\n");
+            false
+        }
+        TakeAnswer::Number(_) => true,
+    }
+}
+
 // The site takes the next message. One that is refused, as when its window is FULL, is offered again in the next round.
 fn take(mut ends: Ends, a: &mut [u8; 42240]) -> Ends {
     if MESSAGES <= ends.taken {
         return ends;
     }
-    let mut text = *b"level 2: 10 cars\n";
-    text[9] = b'1' + ends.taken / 10;
-    text[10] = b'0' + ends.taken % 10;
-    let taken = gateway::take(ends.site, a, 0, 1, &text);
+    let taken = gateway::take(ends.site, a, 0, 1, &text(ends.taken));
     let answer = taken.answer;
-    match answer {
-        TakeAnswer::Refused(r) => say(ground::number(r), b" refuses a message\n"),
-        TakeAnswer::Number(_) => ends.taken += 1,
+    if was_taken(answer) {
+        ends.taken += 1;
     }
     let site = taken.book; // a field that is a struct is bound by `let` before it is passed on
     ends.site = site;
     ends
 }
 
-// What was written arrives at the other end, unless the link loses it. `n` never exceeds the output; the guard spares a proof of
-// that. Of all packets every third is lost: the site's in rounds 1, 4, 7 and so on, the office's in rounds 2, 5, 8 and so on.
-fn cross(to: Book, store: &mut [u8; 42240], sent: WriteAnswer, packet: &[u8], lost: bool) -> Book {
-    match sent {
+// How many octets were written: none where the call was refused, which is printed.
+fn written(answer: WriteAnswer) -> usize {
+    match answer {
         WriteAnswer::Refused(r) => {
             say(ground::number(r), b" refuses to write\n");
-            to
+            0
         }
-        WriteAnswer::Wrote(n) => {
-            if lost || packet.len() < n {
-                return to;
-            }
-            let arrived = gateway::arrive(to, store, &packet[0..n]);
-            let answer = arrived.answer;
-            match answer {
-                ArriveAnswer::Refused(r) => say(ground::number(r), b" refuses a packet\n"),
-                ArriveAnswer::At(_) => {}
-            }
-            arrived.book
+        WriteAnswer::Wrote(n) => n,
+    }
+}
+
+// Prints the refusal of a packet.
+fn tell_arrival(answer: ArriveAnswer) {
+    match answer {
+        ArriveAnswer::Refused(r) => say(ground::number(r), b" refuses a packet\n"),
+        ArriveAnswer::At(_) => {}
+    }
+}
+
+// The n octets that were written arrive at the other end, unless the link loses them. `n` never exceeds the output; the guard spares
+// a proof of that. Of all packets every third is lost: the site's in rounds 1, 4, 7 and so on, the office's in rounds 2, 5, 8 and so on.
+fn cross(to: Book, store: &mut [u8; 42240], packet: &[u8], n: usize, lost: bool) -> Book {
+    if lost | (n == 0) {
+        return to;
+    }
+    if packet.len() < n {
+        return to;
+    }
+    let arrived = gateway::arrive(to, store, &packet[0..n]);
+    let answer = arrived.answer;
+    tell_arrival(answer);
+    arrived.book
+}
+
+// How many messages are held unacknowledged. A refusal is printed.
+fn count(answer: HeldAnswer) -> u32 {
+    match answer {
+        HeldAnswer::Refused(r) => {
+            say(ground::number(r), b" refuses to count\n");
+            0
         }
+        HeldAnswer::Holds(count) => count,
     }
 }
 
 // The site writes one of the messages that it holds unacknowledged. The rank varies from round to round, and a program with a
 // clock should vary its pauses too: a link that loses packets at a steady beat could lose the same message every time.
 fn send(mut ends: Ends, a: &[u8; 42240], b: &mut [u8; 42240], round: u8) -> Ends {
-    let mut rank = 0;
-    let held = gateway::held(ends.site, 0, 1);
-    match held {
-        HeldAnswer::Refused(r) => say(ground::number(r), b" refuses to count\n"),
-        HeldAnswer::Holds(count) => {
-            if count == 0 {
-                return ends;
-            }
-            rank = (round as u32 % count % 32) as u8; // no more than 32 are held
-        }
+    let count = count(gateway::held(ends.site, 0, 1));
+    if count == 0 {
+        return ends;
     }
+    let rank = (round as u32 % count % 32) as u8; // no more than 32 are held
     let mut packet = [0u8; 144];
     let sent = gateway::send(ends.site, a, 0, 1, rank, &mut packet);
     let answer = sent.answer;
-    let office = cross(ends.office, b, answer, &packet, round % 3 == 1);
+    let office = cross(ends.office, b, &packet, written(answer), round % 3 == 1);
     let site = sent.book;
     ends.site = site;
     ends.office = office;
     ends
+}
+
+// Prints a message that was handed out, if one was.
+fn printed(answer: WriteAnswer, out: &[u8]) -> bool {
+    match answer {
+        WriteAnswer::Refused(_) => false,
+        WriteAnswer::Wrote(n) => {
+            if n <= out.len() {
+                io::write_all(libc::STDOUT_FILENO, &out[0..n]);
+            }
+            true
+        }
+    }
 }
 
 // The office hands out the next message and prints it. NOTHING refuses while that message is still on its way.
@@ -116,14 +160,8 @@ fn hand_out(mut ends: Ends, b: &[u8; 42240]) -> Ends {
     let mut out = [0u8; 132];
     let handed = gateway::hand_out(ends.office, b, 0, 1, &mut out);
     let answer = handed.answer;
-    match answer {
-        WriteAnswer::Refused(_) => {}
-        WriteAnswer::Wrote(n) => {
-            ends.handed += 1;
-            if n <= out.len() {
-                io::write_all(libc::STDOUT_FILENO, &out[0..n]);
-            }
-        }
+    if printed(answer, &out) {
+        ends.handed += 1;
     }
     let office = handed.book;
     ends.office = office;
@@ -135,7 +173,7 @@ fn acknowledge(mut ends: Ends, a: &mut [u8; 42240], round: u8) -> Ends {
     let mut packet = [0u8; 144];
     let sent = gateway::empty(ends.office, 0, 1, &mut packet);
     let answer = sent.answer;
-    let site = cross(ends.site, a, answer, &packet, round % 3 == 2);
+    let site = cross(ends.site, a, &packet, written(answer), round % 3 == 2);
     let office = sent.book;
     ends.site = site;
     ends.office = office;
@@ -143,11 +181,11 @@ fn acknowledge(mut ends: Ends, a: &mut [u8; 42240], round: u8) -> Ends {
 }
 
 // One round. Stores are passed on as arrays, not slices, which spares a proof of their length.
-fn turn(ends: Ends, a: &mut [u8; 42240], b: &mut [u8; 42240], round: u8) -> Ends {
-    let taken = take(ends, a);
-    let sent = send(taken, a, b, round);
-    let handed = hand_out(sent, b);
-    acknowledge(handed, a, round)
+fn turn(mut ends: Ends, a: &mut [u8; 42240], b: &mut [u8; 42240], round: u8) -> Ends {
+    ends = take(ends, a);
+    ends = send(ends, a, b, round);
+    ends = hand_out(ends, b);
+    acknowledge(ends, a, round)
 }
 
 fn main() {

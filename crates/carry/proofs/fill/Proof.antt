@@ -1,8 +1,8 @@
-use lib.Bits.{bitXor, mask-lt}
+use borrow.Author.Needs.{needs}
 use native.Mathlib.Omega.{arith}
-use Prim.Native.Nat.{_-_, _≤_}
-use mathlib.Core.Path.{_≡_}
 use lib.ListN.{length, length-set}
+use mathlib.Core.Path.{_≡_}
+use Prim.Native.Nat.{_-_, _≤_}
 use Rattle.carry.proofs.fill.Statement.{statement}
 use Rattle.carry.proofs.fill.Tie as tie
 
@@ -15,8 +15,8 @@ abbrev μ-loop : tie.MeasureT-loop
 loop-holds : tie.Need-loop-holds Inv-loop μ-loop
 loop-holds c = omega arith
 
-cast-message : tie.Need-cast-message Inv-loop μ-loop
-cast-message c = record { fits = mask-lt (bitXor (c .before .before .args .number) (c .before .loop .i)) 8 }
+octet-requires : tie.Need-octet-requires Inv-loop μ-loop
+octet-requires c κs = search needs
 
 slice-write-message : tie.Need-slice-write-message Inv-loop μ-loop
 slice-write-message c = omega arith
@@ -28,7 +28,7 @@ loop-less : tie.Need-loop-less Inv-loop μ-loop
 loop-less c = omega arith
 
 loop-again : tie.Need-loop-again Inv-loop μ-loop
-loop-again c = (omega arith, simp length-set (c .before .loop .inv .1))
+loop-again c = (omega arith, simp length-set (c .before .before .loop .inv .1))
 
 same-length : tie.Need-same-length Inv-loop μ-loop
 same-length c = omega arith
@@ -43,7 +43,7 @@ fill-spec =
     Inv-loop
     μ-loop
     loop-holds
-    cast-message
+    octet-requires
     slice-write-message
     add-i
     loop-less

@@ -1,28 +1,28 @@
-use native.Mathlib.Omega.{arith}
-use Prim.Native.Nat.{_-_, _≤_}
 use borrow.Author.Needs.{needs}
-use mathlib.Core.Path.{_≡_}
+use native.Mathlib.Omega.{arith}
 use lib.ListN.{length}
+use mathlib.Core.Path.{_≡_}
+use Prim.Native.Nat.{_≤_}
 use Rattle.carry.proofs.full.Statement.{statement}
 use Rattle.carry.proofs.full.Tie as tie
 
 abbrev Inv-loop : tie.InvT-loop
-Inv-loop store₀ book₀ i₀ store book i = (i ≤ 224) × (length store ≡ length store₀)
+Inv-loop book₀ store₀ left₀ book store left = (left ≤ 224) × (length store ≡ length store₀)
 
 abbrev μ-loop : tie.MeasureT-loop
-μ-loop store₀ book₀ i₀ store book i = 224 - i
-
-ready-requires : tie.Need-ready-requires Inv-loop μ-loop
-ready-requires c κs = search needs
+μ-loop book₀ store₀ left₀ book store left = left
 
 loop-holds : tie.Need-loop-holds Inv-loop μ-loop
 loop-holds c = omega arith
 
+sub-left : tie.Need-sub-left Inv-loop μ-loop
+sub-left c = omega arith
+
+sub-both-filled : tie.Need-sub-both-filled Inv-loop μ-loop
+sub-both-filled c = omega arith
+
 both-filled-requires : tie.Need-both-filled-requires Inv-loop μ-loop
 both-filled-requires c κs = search needs
-
-add-i : tie.Need-add-i Inv-loop μ-loop
-add-i c = omega arith
 
 loop-less : tie.Need-loop-less Inv-loop μ-loop
 loop-less c = omega arith
@@ -42,10 +42,10 @@ full-spec =
     (tie.spec
     Inv-loop
     μ-loop
-    ready-requires
     loop-holds
+    sub-left
+    sub-both-filled
     both-filled-requires
-    add-i
     loop-less
     loop-again
     same-length
