@@ -3,21 +3,24 @@
 use crate::dice::Dice;
 use crate::tally;
 use crate::tally::Stream;
+use gateway::ArriveAnswer;
+use ground::WriteAnswer;
 
 // A packet under way.
 pub struct Packet {
     // The stream that it was written for, and which packet of it this is, from 1; 0 where it is a repetition.
-    pub stream: Stream,
-    pub serial: u64,
+    stream: Stream,
+    serial: u64,
     // The turn in which it arrives; 0 where the place is free.
-    pub due: u64,
+    due: u64,
     // How many octets it has.
-    pub size: usize,
+    size: usize,
 }
 
-// A place in the air has 144 octets, and four notes of its packet.
+// A place in the air has 144 octets. What is written to the place after the last is lost.
 pub const PLACES: usize = 512;
 
+// Four notes of each place stand in the ledger, behind what is counted.
 const DUE: usize = 0;
 
 const SIZE: usize = 1;
@@ -26,41 +29,79 @@ const STREAM: usize = 2;
 
 const SERIAL: usize = 3;
 
-fn note(notes: &[u64], place: usize, which: usize) -> u64 {
-    let i = place % PLACES * 4 + which % 4;
-    if i < notes.len() {
-        return notes[i];
+fn note(ledger: &[u64; 2304], place: usize, which: usize) -> u64 {
+    let i = tally::CELLS + place % PLACES * 4 + which % 4;
+    if i < 2304 {
+        return ledger[i];
     }
     0
 }
 
-fn set_note(notes: &mut [u64], place: usize, which: usize, n: u64) {
-    let i = place % PLACES * 4 + which % 4;
-    if i < notes.len() {
-        notes[i] = n;
+fn set_note(ledger: &mut [u64; 2304], place: usize, which: usize, n: u64) {
+    let i = tally::CELLS + place % PLACES * 4 + which % 4;
+    if i < 2304 {
+        ledger[i] = n;
     }
 }
 
 // What a place says of its packet.
-pub fn under_way(notes: &[u64], place: usize) -> Packet {
+fn under_way(ledger: &[u64; 2304], place: usize) -> Packet {
     Packet {
-        stream: Stream::of(note(notes, place, STREAM)),
-        serial: note(notes, place, SERIAL),
-        due: note(notes, place, DUE),
-        size: note(notes, place, SIZE) as usize,
+        stream: Stream::of(note(ledger, place, STREAM)),
+        serial: note(ledger, place, SERIAL),
+        due: note(ledger, place, DUE),
+        size: note(ledger, place, SIZE) as usize,
     }
 }
 
-// The place is free again.
-pub fn clear(notes: &mut [u64], place: usize) {
-    set_note(notes, place, DUE, 0);
+impl Packet {
+    // Does it arrive at an end in this turn?
+    fn arrives(self, end: u8, turn: u64) -> bool {
+        let stream = self.stream;
+        (self.due != 0) & (self.due <= turn) & (stream.end != end)
+    }
+
+    // Counts its arrival: it was overtaken if a later one of its stream came before it.
+    fn landed(self, ledger: &mut [u64; 2304]) {
+        let stream = self.stream;
+        let latest = stream.count(ledger, tally::LATEST);
+        if latest < self.serial {
+            stream.set(ledger, tally::LATEST, self.serial);
+            return;
+        }
+        if self.serial != 0 {
+            stream.add(ledger, tally::OVERTAKEN, 1);
+        }
+    }
+}
+
+// The size of the packet at a place, if it arrives at an end in this turn, and 0 otherwise. The place is free again.
+pub fn landing(ledger: &mut [u64; 2304], place: usize, end: u8, turn: u64) -> usize {
+    let packet = under_way(ledger, place);
+    if !packet.arrives(end, turn) {
+        return 0;
+    }
+    set_note(ledger, place, DUE, 0);
+    packet.landed(ledger);
+    packet.size
+}
+
+// Counts the packet that came from a place, where it was refused.
+pub fn note_arrived(ledger: &mut [u64; 2304], place: usize, answer: ArriveAnswer) {
+    match answer {
+        ArriveAnswer::At(_) => {}
+        ArriveAnswer::Refused(_) => {
+            let stream = Stream::of(note(ledger, place, STREAM));
+            stream.add(ledger, tally::REFUSED, 1);
+        }
+    }
 }
 
 // The first free place, or 512.
-fn free(notes: &[u64]) -> usize {
+pub fn free(ledger: &[u64; 2304]) -> usize {
     let mut place = 0;
     while place < PLACES {
-        if note(notes, place, DUE) == 0 {
+        if note(ledger, place, DUE) == 0 {
             return place;
         }
         place += 1;
@@ -68,85 +109,98 @@ fn free(notes: &[u64]) -> usize {
     PLACES
 }
 
-// Puts one octet of a place.
-fn set_octet(air: &mut [u8], place: usize, i: usize, octet: u8) {
-    let to = place % PLACES * 144 + i % 144;
-    if to < air.len() {
-        air[to] = octet;
+// Copies one octet of a place to another place.
+fn copy_octet(air: &mut [u8], from: usize, to: usize, i: usize) {
+    let source = from % 1024 * 144 + i % 144;
+    let target = to % 1024 * 144 + i % 144;
+    if air.len() <= source {
+        return;
+    }
+    if air.len() <= target {
+        return;
+    }
+    air[target] = air[source];
+}
+
+// Copies the octets of a place to another place.
+fn copy(air: &mut [u8], from: usize, to: usize) {
+    let mut left = 144usize;
+    while 0 < left {
+        left -= 1;
+        copy_octet(air, from, to, left);
     }
 }
 
-// Copies octets to a place.
-fn copy(air: &mut [u8], place: usize, octets: &[u8]) {
-    let mut i = 0;
-    while i < octets.len() {
-        set_octet(air, place, i, octets[i]);
-        i += 1;
-    }
-}
-
-// Puts a packet into a free place. Where there is none it is lost.
-fn put(air: &mut [u8], notes: &mut [u64], tally: &mut [u64], octets: &[u8], packet: Packet) {
-    let place = free(notes);
+// The packet at a place is under way.
+fn set_off(ledger: &mut [u64; 2304], place: usize, packet: Packet) {
     let stream = packet.stream;
     if PLACES <= place {
-        stream.add(tally, tally::LOST, 1);
+        stream.add(ledger, tally::LOST, 1);
         return;
     }
-    copy(air, place, octets);
-    set_note(notes, place, DUE, packet.due);
-    set_note(notes, place, SIZE, packet.size as u64);
-    set_note(notes, place, STREAM, stream.number());
-    set_note(notes, place, SERIAL, packet.serial);
+    set_note(ledger, place, DUE, packet.due);
+    set_note(ledger, place, SIZE, packet.size as u64);
+    set_note(ledger, place, STREAM, stream.number());
+    set_note(ledger, place, SERIAL, packet.serial);
 }
 
-// A packet that is in the air may be repeated; the repetition is due in one to eight turns.
-fn repeat(
-    air: &mut [u8],
-    notes: &mut [u64],
-    tally: &mut [u64],
-    octets: &[u8],
-    first: Packet,
-    dice: Dice,
-) {
-    let stream = first.stream;
-    let number = stream.number();
-    let purpose = first.serial << 4;
-    if 16 <= dice.roll(number, purpose ^ 3) {
-        return;
-    }
-    stream.add(tally, tally::REPEATED, 1);
-    let again = Packet {
-        serial: 0,
-        due: dice.turn % 65536 + 1 + dice.roll(number, purpose ^ 4) / 32,
-        ..first
-    };
-    put(air, notes, tally, octets, again);
+// The packet at a place is repeated.
+fn repeat(air: &mut [u8], ledger: &mut [u64; 2304], place: usize, again: Packet) {
+    let stream = again.stream;
+    stream.add(ledger, tally::REPEATED, 1);
+    let other = free(ledger);
+    copy(air, place, other);
+    set_off(ledger, other, again);
 }
 
-// Sends a packet into the air, where it may be lost or repeated; it is due in one to four turns.
-pub fn launch(
+// The packet at a place may be lost, and is due in one to four turns; it may be repeated, and the repetition is due in one to eight.
+fn fly(
     air: &mut [u8],
-    notes: &mut [u64],
-    tally: &mut [u64],
-    octets: &[u8],
+    ledger: &mut [u64; 2304],
+    place: usize,
+    size: usize,
     stream: Stream,
     dice: Dice,
 ) {
-    stream.add(tally, tally::WRITTEN, 1);
-    let serial = stream.count(tally, tally::WRITTEN);
+    let serial = stream.count(ledger, tally::WRITTEN);
     let number = stream.number();
     let purpose = serial << 4;
+    let next = dice.turn % 65536 + 1;
     if dice.roll(number, purpose ^ 1) < 32 {
-        stream.add(tally, tally::LOST, 1);
+        stream.add(ledger, tally::LOST, 1);
         return;
     }
     let first = Packet {
         stream,
         serial,
-        due: dice.turn % 65536 + 1 + dice.roll(number, purpose ^ 2) / 64,
-        size: octets.len(),
+        due: next + dice.roll(number, purpose ^ 2) / 64,
+        size,
     };
-    put(air, notes, tally, octets, first);
-    repeat(air, notes, tally, octets, first, dice);
+    set_off(ledger, place, first);
+    if dice.roll(number, purpose ^ 3) < 16 {
+        let again = Packet {
+            serial: 0,
+            due: next + dice.roll(number, purpose ^ 4) / 32,
+            ..first
+        };
+        repeat(air, ledger, place, again);
+    }
+}
+
+// A packet that was written to a place goes into the air.
+pub fn launch(
+    air: &mut [u8],
+    ledger: &mut [u64; 2304],
+    place: usize,
+    written: WriteAnswer,
+    stream: Stream,
+    dice: Dice,
+) {
+    match written {
+        WriteAnswer::Refused(_) => {}
+        WriteAnswer::Wrote(size) => {
+            stream.add(ledger, tally::WRITTEN, 1);
+            fly(air, ledger, place, size, stream, dice);
+        }
+    }
 }

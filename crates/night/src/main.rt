@@ -1,7 +1,6 @@
 // A night at the garage. Four lines of a site dial in to its office; two gateways carry counts both ways on both channels, over a
 // link that loses, repeats and reorders packets. Line 1 hands out slowly, line 2 goes through recovery, and line 3 closes and
 // opens again while its first identifier rests. The night is worked out from a seed: `night SEED`, or one of its own.
-use book::Book;
 use dice::Dice;
 use story::Ends;
 use tally::Stream;
@@ -36,109 +35,88 @@ fn asked(stream: Stream) -> u64 {
 }
 
 // Asks a stream for one call's messages.
-fn ask_of(tally: &mut [u64], stream: Stream) {
-    stream.add(tally, tally::ASKED, asked(stream));
+fn ask_of(ledger: &mut [u64; 2304], stream: Stream) {
+    stream.add(ledger, tally::ASKED, asked(stream));
 }
 
 // Asks the four streams of a line for one call's messages.
-fn ask(tally: &mut [u64], line: u8) {
-    let first = Stream {
-        end: 0,
-        line,
-        channel: 1,
-    };
-    let second = Stream {
-        channel: 2,
-        ..first
-    };
-    ask_of(tally, first);
-    ask_of(tally, second);
-    ask_of(tally, first.back());
-    ask_of(tally, second.back());
+fn ask(ledger: &mut [u64; 2304], line: u8) {
+    ask_of(ledger, Stream::at_end(0, line, 1));
+    ask_of(ledger, Stream::at_end(0, line, 2));
+    ask_of(ledger, Stream::at_end(1, line, 1));
+    ask_of(ledger, Stream::at_end(1, line, 2));
 }
 
-// One end reads what arrives in a turn, and does its work.
-fn serve(
-    book: Book,
-    store: &mut [u8],
-    air: &mut [u8],
-    notes: &mut [u64],
-    tally: &mut [u64],
-    end: u8,
-    dice: Dice,
-) -> Book {
-    let read = ends::arrivals(book, store, air, notes, tally, end, dice.turn);
-    ends::work(read, store, air, notes, tally, end, dice)
+// Asks all lines for one call's messages.
+fn ask_all(ledger: &mut [u64; 2304]) {
+    ask(ledger, 0);
+    ask(ledger, 1);
+    ask(ledger, 2);
+    ask(ledger, 3);
 }
 
-// Both ends.
+// Both ends do a turn's work.
 fn carry(
     ends: Ends,
-    a: &mut [u8],
-    b: &mut [u8],
+    a: &mut [u8; 42240],
+    b: &mut [u8; 42240],
     air: &mut [u8],
-    notes: &mut [u64],
-    tally: &mut [u64],
+    ledger: &mut [u64; 2304],
     dice: Dice,
 ) -> Ends {
-    let site = serve(ends.site, a, air, notes, tally, 0, dice);
-    let office = serve(ends.office, b, air, notes, tally, 1, dice);
+    let site = ends::serve(ends.site, a, air, ledger, 0, dice);
+    let office = ends::serve(ends.office, b, air, ledger, 1, dice);
     Ends { site, office }
 }
 
 // Every 500 turns a bar says how far the night has come.
-fn tell(out: &mut [u8], tally: &[u64], turn: u64, time: u64) {
+fn tell(ledger: &[u64; 2304], turn: u64, time: u64) {
     if turn % 500 == 0 {
-        paper::progress(out, tally, time);
+        paper::progress(ledger, time);
     }
 }
 
 // Line 3 begins its second call once its first is done.
-fn call_again(ends: Ends, tally: &mut [u64], out: &mut [u8], time: u64) -> Ends {
-    if !(tally::line_done(tally, 3) & story::first_call(ends)) {
+fn call_again(ends: Ends, ledger: &mut [u64; 2304], time: u64) -> Ends {
+    if !(tally::line_done(ledger, 3) & story::first_call(ends.site)) {
         return ends;
     }
-    ask(tally, 3);
-    story::again(ends, time, tally, out)
+    ask(ledger, 3);
+    story::again(ends, time, ledger)
 }
 
 // One turn.
 fn turn(
-    ends: Ends,
-    a: &mut [u8],
-    b: &mut [u8],
+    mut ends: Ends,
+    a: &mut [u8; 42240],
+    b: &mut [u8; 42240],
     air: &mut [u8],
-    notes: &mut [u64],
-    tally: &mut [u64],
-    out: &mut [u8],
+    ledger: &mut [u64; 2304],
     dice: Dice,
 ) -> Ends {
     let time = dice.turn % 65536 * TURN;
-    let carried = carry(ends, a, b, air, notes, tally, dice);
-    tell(out, tally, dice.turn, time);
-    let dialled = story::turn(carried, dice.turn, time, out);
-    call_again(dialled, tally, out, time)
+    ends = carry(ends, a, b, air, ledger, dice);
+    tell(ledger, dice.turn, time);
+    ends = story::turn(ends, dice.turn, time);
+    call_again(ends, ledger, time)
 }
 
 // All lines close.
-fn end(ends: Ends, tally: &mut [u64], out: &mut [u8], time: u64) {
-    let mut left = ends;
-    let mut line = 0u8;
-    while line < 4 {
-        left = story::hang_up(left, line, time, tally, out);
-        line += 1;
-    }
+fn end(mut ends: Ends, ledger: &mut [u64; 2304], time: u64) {
+    paper::progress(ledger, time);
+    ends = story::hang_up(ends, 0, time, ledger);
+    ends = story::hang_up(ends, 1, time, ledger);
+    ends = story::hang_up(ends, 2, time, ledger);
+    story::hang_up(ends, 3, time, ledger);
 }
 
 // The whole night, to the lines' end.
 fn run(
     seed: u64,
-    a: &mut [u8],
-    b: &mut [u8],
+    a: &mut [u8; 42240],
+    b: &mut [u8; 42240],
     air: &mut [u8],
-    notes: &mut [u64],
-    tally: &mut [u64],
-    out: &mut [u8],
+    ledger: &mut [u64; 2304],
 ) {
     let fresh = gateway::fresh();
     let mut ends = Ends {
@@ -146,13 +124,11 @@ fn run(
         office: fresh,
     };
     let mut now = 0u64;
-    while now < LONGEST && !tally::all_done(tally) {
-        ends = turn(ends, a, b, air, notes, tally, out, Dice { seed, turn: now });
+    while now < LONGEST && !tally::all_done(ledger) {
+        ends = turn(ends, a, b, air, ledger, Dice { seed, turn: now });
         now += 1;
     }
-    let time = now % 65536 * TURN;
-    paper::progress(out, tally, time);
-    end(ends, tally, out, time);
+    end(ends, ledger, now % 65536 * TURN);
 }
 
 // The seed that the program was started with, or its own.
@@ -169,26 +145,13 @@ fn seed() -> Number {
 fn night(seed: u64) {
     let mut a = [0u8; 42240];
     let mut b = [0u8; 42240];
-    let mut air = [0u8; 73728];
-    let mut notes = [0u64; 2048];
-    let mut tally = [0u64; 256];
-    let mut out = [0u8; 400];
-    paper::title(&mut out, seed);
-    ask(&mut tally, 0);
-    ask(&mut tally, 1);
-    ask(&mut tally, 2);
-    ask(&mut tally, 3);
-    run(
-        seed,
-        &mut a,
-        &mut b,
-        &mut air,
-        &mut notes,
-        &mut tally,
-        &mut out,
-    );
-    paper::table(&mut out, &tally);
-    paper::verdict(&mut out, &tally);
+    let mut air = [0u8; 73872];
+    let mut ledger = [0u64; 2304];
+    paper::title(seed);
+    ask_all(&mut ledger);
+    run(seed, &mut a, &mut b, &mut air, &mut ledger);
+    paper::table(&ledger);
+    paper::verdict(&ledger);
 }
 
 fn main() {

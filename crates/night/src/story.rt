@@ -1,4 +1,5 @@
-// What happens to the lines in the night, besides the messages: they open, meet in modem relay, recover, and close.
+// What happens to the lines in the night, besides the messages: they open, meet in modem relay, recover, and close. The calls stand
+// in functions of one book, and what is told of them in functions of none.
 use crate::paper;
 use crate::tally;
 use crate::tally::Stream;
@@ -15,10 +16,17 @@ pub struct Ends {
     pub office: Book,
 }
 
+const SITE: u8 = 0;
+
+const OFFICE: u8 = 1;
+
 // The identifier of line 3 on its first call and on its second. Lines 0 to 2 have 17 to 19.
 const FIRST: u8 = 20;
 
 const SECOND: u8 = 21;
+
+// No line.
+const NONE: u8 = 4;
 
 // What opening a line with an identifier is answered, and leaves.
 fn opening(book: Book, line: u8, identifier: u8, time: u64) -> gateway::Opened {
@@ -31,13 +39,10 @@ fn opening(book: Book, line: u8, identifier: u8, time: u64) -> gateway::Opened {
     gateway::open(book, line, settings, time)
 }
 
-// Opens a line at both ends.
-fn open(ends: Ends, line: u8, identifier: u8, time: u64) -> Ends {
-    let at_site = opening(ends.site, line, identifier, time);
-    let at_office = opening(ends.office, line, identifier, time);
-    let site = at_site.book;
-    let office = at_office.book;
-    Ends { site, office }
+// An end opens a line.
+fn open(book: Book, line: u8, identifier: u8, time: u64) -> Book {
+    let opened = opening(book, line, identifier, time);
+    opened.book
 }
 
 // An end requests a mode of a line.
@@ -52,177 +57,192 @@ fn hear(book: Book, line: u8, mode: u8, time: u64) -> Book {
     hears.book
 }
 
-// Both ends of a line go to modem relay: the site requests it, the office hears of it, and the site hears of that.
-fn meet(ends: Ends, line: u8, time: u64, out: &mut [u8]) -> Ends {
-    let asked = ask(ends.site, line, Modes::MODEM, time);
-    let office = hear(ends.office, line, Modes::MODEM, time);
-    let site = hear(asked, line, Modes::MODEM, time);
-    paper::event(out, time, line, b": in modem relay at both ends");
-    Ends { site, office }
+// A line goes to modem relay: the site requests it, the office hears of it, and the site hears of that.
+fn meet(mut book: Book, end: u8, line: u8, time: u64) -> Book {
+    if end == SITE {
+        book = ask(book, line, Modes::MODEM, time);
+    }
+    hear(book, line, Modes::MODEM, time)
 }
 
-// Line 2 begins badly: the site goes to voiceband data, and nobody tells the office.
-fn part(ends: Ends, time: u64, out: &mut [u8]) -> Ends {
-    let site = ask(ends.site, 2, Modes::VOICEBAND, time);
-    paper::event(
-        out,
-        time,
-        2,
-        b": the site asks for VBD, and its indication is lost",
-    );
-    Ends { site, ..ends }
+// An end opens all lines.
+fn open_all(mut book: Book, time: u64) -> Book {
+    book = open(book, 0, 17, time);
+    book = open(book, 1, 18, time);
+    book = open(book, 2, 19, time);
+    open(book, 3, FIRST, time)
 }
 
-// The dialling: what a turn has in store for the lines.
-fn dial(ends: Ends, turn: u64, time: u64, out: &mut [u8]) -> Ends {
+// The line that meets in modem relay in a turn.
+fn meeting(turn: u64) -> u8 {
     match turn {
-        0 => {
-            let one = open(ends, 0, 17, time);
-            let two = open(one, 1, 18, time);
-            let three = open(two, 2, 19, time);
-            open(three, 3, FIRST, time)
-        }
-        1 => meet(ends, 0, time, out),
-        2 => meet(ends, 1, time, out),
-        3 => part(ends, time, out),
-        4 => meet(ends, 3, time, out),
-        8 => meet(ends, 2, time, out),
-        _ => ends,
+        1 => 0,
+        2 => 1,
+        4 => 3,
+        8 => 2,
+        _ => NONE,
     }
 }
 
-// An audio indication is due at the site. The first two are lost; the third is heard, and answered by audio.
-fn recover(ends: Ends, line: u8, count: u8, time: u64, out: &mut [u8]) -> Ends {
-    if count < 3 {
-        paper::event(
-            out,
-            time,
-            line,
-            b": the modes differ; an audio indication is sent, and lost",
-        );
-        return ends;
+// The dialling: what a turn has in store for the lines at one end. Line 2 begins badly: the site goes to voiceband data, and nobody
+// tells the office.
+fn dial(book: Book, end: u8, turn: u64, time: u64) -> Book {
+    let line = meeting(turn);
+    if line != NONE {
+        return meet(book, end, line, time);
     }
-    let office = hear(ends.office, line, Modes::AUDIO, time);
-    let site = hear(ends.site, line, Modes::AUDIO, time);
-    paper::event(
-        out,
-        time,
-        line,
-        b": the third audio indication is heard, and recovery is over",
-    );
-    Ends { site, office }
+    match turn {
+        0 => open_all(book, time),
+        3 => part(book, end, time),
+        _ => book,
+    }
+}
+
+// The site goes to voiceband data on line 2.
+fn part(book: Book, end: u8, time: u64) -> Book {
+    if end != SITE {
+        return book;
+    }
+    ask(book, 2, Modes::VOICEBAND, time)
+}
+
+// Tells of the dialling.
+fn tell_dialling(turn: u64, time: u64) {
+    let line = meeting(turn);
+    if line != NONE {
+        paper::event(time, line, paper::MET);
+    }
+    if turn == 3 {
+        paper::event(time, 2, paper::PARTED);
+    }
+}
+
+// Which audio indication is due; 0 where none is.
+fn indication(answer: TickAnswer) -> u8 {
+    if let TickAnswer::Audio(n) = answer {
+        return n;
+    }
+    0
+}
+
+// The first two audio indications are lost; the third is heard, and answered by audio.
+fn tell_recovery(line: u8, indication: u8, time: u64) {
+    match indication {
+        0 => {}
+        1 | 2 => paper::event(time, line, paper::UNHEARD),
+        _ => paper::event(time, line, paper::RECOVERED),
+    }
+}
+
+// Recovery at one end.
+fn recover(book: Book, line: u8, indication: u8, time: u64) -> Book {
+    if indication < 3 {
+        return book;
+    }
+    hear(book, line, Modes::AUDIO, time)
 }
 
 // Tells a line the time at both ends.
-fn tick(ends: Ends, line: u8, time: u64, out: &mut [u8]) -> Ends {
+fn tick(ends: Ends, line: u8, time: u64) -> Ends {
     let at_site = gateway::tick(ends.site, line, time);
-    let at_office = gateway::tick(ends.office, line, time);
     let answer = at_site.answer;
-    let site = at_site.book;
-    let office = at_office.book;
-    let next = Ends { site, office };
-    if let TickAnswer::Audio(n) = answer {
-        return recover(next, line, n, time, out);
-    }
-    next
+    let due = indication(answer);
+    tell_recovery(line, due, time);
+    let at_office = gateway::tick(ends.office, line, time);
+    let site = recover(at_site.book, line, due, time);
+    let office = recover(at_office.book, line, due, time);
+    Ends { site, office }
 }
 
-// Tells every line the time.
-fn ticks(ends: Ends, time: u64, out: &mut [u8]) -> Ends {
-    let one = tick(ends, 0, time, out);
-    let two = tick(one, 1, time, out);
-    let three = tick(two, 2, time, out);
-    tick(three, 3, time, out)
+// Both ends dial.
+fn dial_both(ends: Ends, turn: u64, time: u64) -> Ends {
+    let site = dial(ends.site, SITE, turn, time);
+    let office = dial(ends.office, OFFICE, turn, time);
+    Ends { site, office }
 }
 
 // What happens to the lines in a turn: they dial, and are told the time.
-pub fn turn(ends: Ends, turn: u64, time: u64, out: &mut [u8]) -> Ends {
-    let dialled = dial(ends, turn, time, out);
-    ticks(dialled, time, out)
+pub fn turn(mut ends: Ends, turn: u64, time: u64) -> Ends {
+    ends = dial_both(ends, turn, time);
+    tell_dialling(turn, time);
+    ends = tick(ends, 0, time);
+    ends = tick(ends, 1, time);
+    ends = tick(ends, 2, time);
+    tick(ends, 3, time)
 }
 
 // Notes what a slip of an end says was handed out there, which the other end had sent.
-fn kept(tally: &mut [u64], slip: &[u8], line: u8, end: u8) {
+fn note(ledger: &mut [u64; 2304], slip: &[u8], line: u8, end: u8) {
     let reading = slip::read(slip);
     if let Reading::Says(s) = reading {
-        let first = Stream {
-            end,
-            line,
-            channel: 1,
-        };
-        let second = Stream {
-            channel: 2,
-            ..first
-        };
-        first.back().add(tally, tally::SLIP, s.count1 as u64);
-        second.back().add(tally, tally::SLIP, s.count2 as u64);
+        let first = Stream::at_end(1 - end % 2, line, 1);
+        let second = Stream::at_end(1 - end % 2, line, 2);
+        first.add(ledger, tally::SLIP, s.count1 as u64);
+        second.add(ledger, tally::SLIP, s.count2 as u64);
     }
 }
 
-// Writes a slip that an end has kept.
-fn show(slip: &[u8], line: u8, end: u8, out: &mut [u8]) {
-    let at = words::put(out, 0, b"          slip of line");
-    let at = words::decimal(out, at, line as u64);
-    let at = words::put(out, at, b" at the ");
-    let at = paper::end(out, at, end);
-    let at = words::put(out, at, b":");
-    let at = words::hexadecimal(out, at, slip);
-    paper::line(out, at);
+// Keeps a slip of an end, and shows it.
+fn keep(ledger: &mut [u64; 2304], slip: &[u8], line: u8, end: u8) {
+    note(ledger, slip, line, end);
+    paper::slip(slip, line, end);
 }
 
 // Closes a line at one end, and keeps its slip.
-fn close(book: Book, line: u8, end: u8, tally: &mut [u64], out: &mut [u8]) -> Book {
+fn close(book: Book, line: u8, end: u8, ledger: &mut [u64; 2304]) -> Book {
     let mut slip = [0u8; 12];
     let gave = gateway::close(book, line, &mut slip);
-    kept(tally, &slip, line, end);
-    show(&slip, line, end, out);
+    keep(ledger, &slip, line, end);
     gave.book
 }
 
 // Closes a line at both ends.
-pub fn hang_up(ends: Ends, line: u8, time: u64, tally: &mut [u64], out: &mut [u8]) -> Ends {
-    paper::event(out, time, line, b": closed");
-    let site = close(ends.site, line, 0, tally, out);
-    let office = close(ends.office, line, 1, tally, out);
+pub fn hang_up(ends: Ends, line: u8, time: u64, ledger: &mut [u64; 2304]) -> Ends {
+    paper::event(time, line, paper::CLOSED);
+    let site = close(ends.site, line, SITE, ledger);
+    let office = close(ends.office, line, OFFICE, ledger);
     Ends { site, office }
 }
 
 // Is line 3 in its first call?
-pub fn first_call(ends: Ends) -> bool {
-    let site = ends.site;
+pub fn first_call(site: Book) -> bool {
     let line = site.line(3);
     line.identifier == FIRST
 }
 
 // Tells that opening with an identifier that rests is refused.
-fn tell(answer: Verdict, time: u64, out: &mut [u8]) {
+fn tell_refusal(answer: Verdict, time: u64) {
     match answer {
-        Verdict::Pass => {
-            paper::event(out, time, 3, b": OPENED WITH AN IDENTIFIER THAT RESTS");
-        }
-        Verdict::Refuse(_) => {
-            paper::event(
-                out,
-                time,
-                3,
-                b": identifier 20 rests, and opening with it is refused",
-            );
-        }
+        Verdict::Pass => paper::event(time, 3, paper::UNRESTED),
+        Verdict::Refuse(_) => paper::event(time, 3, paper::RESTS),
     }
 }
 
-// Line 3 has carried its first call's messages: it closes, its identifier rests, and it opens again with another one.
-pub fn again(ends: Ends, time: u64, tally: &mut [u64], out: &mut [u8]) -> Ends {
-    let closed = hang_up(ends, 3, time, tally, out);
-    renew(closed, time, out)
+// The site tries to open line 3 with its first identifier.
+fn try_first(site: Book, time: u64) {
+    let tried = opening(site, 3, FIRST, time);
+    let answer = tried.answer;
+    tell_refusal(answer, time);
 }
 
-// Line 3 opens with another identifier, its first being refused.
-fn renew(closed: Ends, time: u64, out: &mut [u8]) -> Ends {
-    let tried = opening(closed.site, 3, FIRST, time);
-    let answer = tried.answer;
-    tell(answer, time, out);
-    let opened = open(closed, 3, SECOND, time);
-    paper::event(out, time, 3, b": open with identifier 21");
-    meet(opened, 3, time, out)
+// An end opens line 3 with another identifier.
+fn renew(mut book: Book, end: u8, time: u64) -> Book {
+    book = open(book, 3, SECOND, time);
+    meet(book, end, 3, time)
+}
+
+// Tells that line 3 is open again.
+fn tell_renewal(time: u64) {
+    paper::event(time, 3, paper::RENEWED);
+    paper::event(time, 3, paper::MET);
+}
+
+// Line 3 has carried its first call's messages: it closes, its identifier rests, and it opens again with another one.
+pub fn again(mut ends: Ends, time: u64, ledger: &mut [u64; 2304]) -> Ends {
+    ends = hang_up(ends, 3, time, ledger);
+    try_first(ends.site, time);
+    tell_renewal(time);
+    let site = renew(ends.site, SITE, time);
+    let office = renew(ends.office, OFFICE, time);
+    Ends { site, office }
 }

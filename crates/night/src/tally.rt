@@ -1,4 +1,5 @@
-// What is counted of each stream: the messages that one end sends to the other on one channel of one line. There are 16.
+// What is counted of each stream: the messages that one end sends to the other on one channel of one line. There are 16. The counts
+// stand at the front of a ledger; behind them are the notes of the packets in the air.
 pub struct Stream {
     // The end that sends: 0 the site, 1 the office.
     pub end: u8,
@@ -35,7 +36,15 @@ pub const WRONG: usize = 10;
 // The latest packet that has arrived, counted as they were written.
 pub const LATEST: usize = 11;
 
+// How many numbers the counts of all streams are.
+pub const CELLS: usize = 256;
+
 impl Stream {
+    // What an end sends on a channel of a line.
+    pub fn at_end(end: u8, line: u8, channel: u8) -> Stream {
+        Stream { end, line, channel }
+    }
+
     // The stream of a number below 16.
     pub fn of(number: u64) -> Stream {
         Stream {
@@ -68,44 +77,49 @@ impl Stream {
     }
 
     // One of its counts.
-    pub fn count(self, tally: &[u64], kind: usize) -> u64 {
+    pub fn count(self, ledger: &[u64; 2304], kind: usize) -> u64 {
         let i = self.at(kind);
-        if i < tally.len() {
-            return tally[i];
+        if i < 2304 {
+            return ledger[i];
         }
         0
     }
 
     // Sets one of its counts.
-    pub fn set(self, tally: &mut [u64], kind: usize, n: u64) {
+    pub fn set(self, ledger: &mut [u64; 2304], kind: usize, n: u64) {
         let i = self.at(kind);
-        if i < tally.len() {
-            tally[i] = n;
+        if i < 2304 {
+            ledger[i] = n;
         }
     }
 
     // Adds to one of its counts. Counts stay below 2^32, which no night comes near.
-    pub fn add(self, tally: &mut [u64], kind: usize, n: u64) {
-        let was = self.count(tally, kind);
+    pub fn add(self, ledger: &mut [u64; 2304], kind: usize, n: u64) {
+        let was = self.count(ledger, kind);
         self.set(
-            tally,
+            ledger,
             kind,
             (was % 4294967296 + n % 4294967296) % 4294967296,
         );
     }
 
     // Is everything carried that was to be?
-    pub fn done(self, tally: &[u64]) -> bool {
-        self.count(tally, HANDED) == self.count(tally, ASKED)
+    fn done(self, ledger: &[u64; 2304]) -> bool {
+        self.count(ledger, HANDED) == self.count(ledger, ASKED)
+    }
+
+    // Is it, both ways?
+    pub fn pair_done(self, ledger: &[u64; 2304]) -> bool {
+        self.done(ledger) & self.back().done(ledger)
     }
 }
 
 // A count over all streams.
-pub fn sum(tally: &[u64], kind: usize) -> u64 {
+pub fn sum(ledger: &[u64; 2304], kind: usize) -> u64 {
     let mut all = 0u64;
     let mut i = 0u64;
     while i < 16 {
-        let one = Stream::of(i).count(tally, kind);
+        let one = Stream::of(i).count(ledger, kind);
         all = all % 4294967296 + one % 4294967296;
         i += 1;
     }
@@ -113,23 +127,11 @@ pub fn sum(tally: &[u64], kind: usize) -> u64 {
 }
 
 // Is everything carried that was to be, on the four streams of a line?
-pub fn line_done(tally: &[u64], line: u8) -> bool {
-    let there1 = Stream {
-        end: 0,
-        line,
-        channel: 1,
-    };
-    let there2 = Stream {
-        end: 0,
-        line,
-        channel: 2,
-    };
-    let back1 = there1.back();
-    let back2 = there2.back();
-    there1.done(tally) & there2.done(tally) & back1.done(tally) & back2.done(tally)
+pub fn line_done(ledger: &[u64; 2304], line: u8) -> bool {
+    Stream::at_end(0, line, 1).pair_done(ledger) & Stream::at_end(0, line, 2).pair_done(ledger)
 }
 
 // Is everything carried that was to be?
-pub fn all_done(tally: &[u64]) -> bool {
-    line_done(tally, 0) & line_done(tally, 1) & line_done(tally, 2) & line_done(tally, 3)
+pub fn all_done(ledger: &[u64; 2304]) -> bool {
+    line_done(ledger, 0) & line_done(ledger, 1) & line_done(ledger, 2) & line_done(ledger, 3)
 }

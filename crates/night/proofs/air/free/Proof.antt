@@ -1,16 +1,14 @@
 use borrow.Author.Needs.{needs}
 use native.Mathlib.Omega.{arith}
 use Prim.Native.Nat.{_-_, _≤_}
-use lib.ListN.{length}
-use mathlib.Core.Path.{_≡_}
 use Rattle.night.proofs.air.free.Statement.{statement}
 use Rattle.night.proofs.air.free.Tie as tie
 
 abbrev Inv-loop : tie.InvT-loop
-Inv-loop notes place₀ place = place ≤ 512
+Inv-loop ledger place₀ place = place ≤ 512
 
 abbrev μ-loop : tie.MeasureT-loop
-μ-loop notes place₀ place = 512 - place
+μ-loop ledger place₀ place = 512 - place
 
 loop-holds : tie.Need-loop-holds Inv-loop μ-loop
 loop-holds c = omega arith

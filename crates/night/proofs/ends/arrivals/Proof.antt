@@ -1,16 +1,14 @@
 use borrow.Author.Needs.{needs}
 use native.Mathlib.Omega.{arith}
 use Prim.Native.Nat.{_-_, _≤_}
-use lib.ListN.{length}
-use mathlib.Core.Path.{_≡_}
 use Rattle.night.proofs.ends.arrivals.Statement.{statement}
 use Rattle.night.proofs.ends.arrivals.Tie as tie
 
 abbrev Inv-loop : tie.InvT-loop
-Inv-loop store₀ air notes₀ tally₀ end turn now₀ place₀ store notes tally now place = (place ≤ 512) × (length store ≡ length store₀) × (length notes ≡ length notes₀) × (length tally ≡ length tally₀)
+Inv-loop book₀ store₀ air ledger₀ end turn place₀ book store ledger place = place ≤ 512
 
 abbrev μ-loop : tie.MeasureT-loop
-μ-loop store₀ air notes₀ tally₀ end turn now₀ place₀ store notes tally now place = 512 - place
+μ-loop book₀ store₀ air ledger₀ end turn place₀ book store ledger place = 512 - place
 
 loop-holds : tie.Need-loop-holds Inv-loop μ-loop
 loop-holds c = omega arith
@@ -27,30 +25,10 @@ loop-less c = omega arith
 loop-again : tie.Need-loop-again Inv-loop μ-loop
 loop-again c = omega arith
 
-same-length : tie.Need-same-length Inv-loop μ-loop
-same-length c = omega arith
-
-same-length-2 : tie.Need-same-length-2 Inv-loop μ-loop
-same-length-2 c = omega arith
-
-same-length-3 : tie.Need-same-length-3 Inv-loop μ-loop
-same-length-3 c = omega arith
-
 returns : tie.Need-returns Inv-loop μ-loop
 returns c = omega arith
 
 pub arrivals-spec : {M : Type 1} → statement M
 arrivals-spec =
     tie.close
-    (tie.spec
-    Inv-loop
-    μ-loop
-    loop-holds
-    arrive-requires
-    add-place
-    loop-less
-    loop-again
-    same-length
-    same-length-2
-    same-length-3
-    returns)
+    (tie.spec Inv-loop μ-loop loop-holds arrive-requires add-place loop-less loop-again returns)

@@ -1,16 +1,16 @@
 use borrow.Author.Needs.{needs}
 use native.Mathlib.Omega.{arith}
-use Prim.Native.Nat.{_-_, _≤_}
 use lib.ListN.{length}
 use mathlib.Core.Path.{_≡_}
+use Prim.Native.Nat.{_-_, _≤_}
 use Rattle.night.proofs.ends.work.Statement.{statement}
 use Rattle.night.proofs.ends.work.Tie as tie
 
 abbrev Inv-loop : tie.InvT-loop
-Inv-loop store₀ air₀ notes₀ tally₀ end dice now₀ i₀ store air notes tally now i = (i ≤ 32) × (length store ≡ length store₀) × (length air ≡ length air₀) × (length notes ≡ length notes₀) × (length tally ≡ length tally₀)
+Inv-loop book₀ store₀ air₀ ledger₀ end dice i₀ book store air ledger i = (i ≤ 32) × (length air ≡ length air₀)
 
 abbrev μ-loop : tie.MeasureT-loop
-μ-loop store₀ air₀ notes₀ tally₀ end dice now₀ i₀ store air notes tally now i = 32 - i
+μ-loop book₀ store₀ air₀ ledger₀ end dice i₀ book store air ledger i = 32 - i
 
 loop-holds : tie.Need-loop-holds Inv-loop μ-loop
 loop-holds c = omega arith
@@ -42,15 +42,6 @@ loop-again c = omega arith
 same-length : tie.Need-same-length Inv-loop μ-loop
 same-length c = omega arith
 
-same-length-2 : tie.Need-same-length-2 Inv-loop μ-loop
-same-length-2 c = omega arith
-
-same-length-3 : tie.Need-same-length-3 Inv-loop μ-loop
-same-length-3 c = omega arith
-
-same-length-4 : tie.Need-same-length-4 Inv-loop μ-loop
-same-length-4 c = omega arith
-
 returns : tie.Need-returns Inv-loop μ-loop
 returns c = omega arith
 
@@ -70,7 +61,4 @@ work-spec =
     loop-less
     loop-again
     same-length
-    same-length-2
-    same-length-3
-    same-length-4
     returns)

@@ -1,16 +1,14 @@
 use borrow.Author.Needs.{needs}
 use native.Mathlib.Omega.{arith}
 use Prim.Native.Nat.{_-_, _≤_}
-use lib.ListN.{length}
-use mathlib.Core.Path.{_≡_}
 use Rattle.night.proofs.paper.agree.Statement.{statement}
 use Rattle.night.proofs.paper.agree.Tie as tie
 
 abbrev Inv-loop : tie.InvT-loop
-Inv-loop tally i₀ i = i ≤ 16
+Inv-loop ledger i₀ i = i ≤ 16
 
 abbrev μ-loop : tie.MeasureT-loop
-μ-loop tally i₀ i = 16 - i
+μ-loop ledger i₀ i = 16 - i
 
 loop-holds : tie.Need-loop-holds Inv-loop μ-loop
 loop-holds c = omega arith

@@ -1,22 +1,26 @@
 use borrow.Author.Needs.{needs}
 use native.Mathlib.Omega.{arith}
 use Prim.Native.Nat.{_-_, _≤_}
-use lib.ListN.{length}
-use mathlib.Core.Path.{_≡_}
 use Rattle.night.proofs.paper.bar.Statement.{statement}
 use Rattle.night.proofs.paper.bar.Tie as tie
 
 abbrev Inv-loop : tie.InvT-loop
-Inv-loop out₀ at full next₀ i₀ out next i = (i ≤ 40) × (length out ≡ length out₀)
+Inv-loop full i₀ t3 i = i ≤ 40
 
 abbrev μ-loop : tie.MeasureT-loop
-μ-loop out₀ at full next₀ i₀ out next i = 40 - i
+μ-loop full i₀ t3 i = 40 - i
 
 loop-holds : tie.Need-loop-holds Inv-loop μ-loop
 loop-holds c = omega arith
 
-cell-requires : tie.Need-cell-requires Inv-loop μ-loop
-cell-requires c κs = search needs
+slice-aggregate-listed : tie.Need-slice-aggregate-listed Inv-loop μ-loop
+slice-aggregate-listed c = omega arith
+
+cast-listed : tie.Need-cast-listed Inv-loop μ-loop
+cast-listed c = omega arith
+
+listed-requires : tie.Need-listed-requires Inv-loop μ-loop
+listed-requires c κs = search needs
 
 add-i : tie.Need-add-i Inv-loop μ-loop
 add-i c = omega arith
@@ -26,9 +30,6 @@ loop-less c = omega arith
 
 loop-again : tie.Need-loop-again Inv-loop μ-loop
 loop-again c = omega arith
-
-same-length : tie.Need-same-length Inv-loop μ-loop
-same-length c = omega arith
 
 returns : tie.Need-returns Inv-loop μ-loop
 returns c = omega arith
@@ -40,9 +41,10 @@ bar-spec =
     Inv-loop
     μ-loop
     loop-holds
-    cell-requires
+    slice-aggregate-listed
+    cast-listed
+    listed-requires
     add-i
     loop-less
     loop-again
-    same-length
     returns)

@@ -1,16 +1,14 @@
 use borrow.Author.Needs.{needs}
 use native.Mathlib.Omega.{arith}
 use Prim.Native.Nat.{_-_, _≤_}
-use lib.ListN.{length}
-use mathlib.Core.Path.{_≡_}
 use Rattle.night.proofs.paper.counts.Statement.{statement}
 use Rattle.night.proofs.paper.counts.Tie as tie
 
 abbrev Inv-loop : tie.InvT-loop
-Inv-loop out₀ at tally stream next₀ kind₀ out next kind = (kind ≤ 10) × (length out ≡ length out₀)
+Inv-loop ledger stream kind₀ kind = kind ≤ 10
 
 abbrev μ-loop : tie.MeasureT-loop
-μ-loop out₀ at tally stream next₀ kind₀ out next kind = 10 - kind
+μ-loop ledger stream kind₀ kind = 10 - kind
 
 loop-holds : tie.Need-loop-holds Inv-loop μ-loop
 loop-holds c = omega arith
@@ -30,9 +28,6 @@ loop-less c = omega arith
 loop-again : tie.Need-loop-again Inv-loop μ-loop
 loop-again c = omega arith
 
-same-length : tie.Need-same-length Inv-loop μ-loop
-same-length c = omega arith
-
 returns : tie.Need-returns Inv-loop μ-loop
 returns c = omega arith
 
@@ -48,5 +43,4 @@ counts-spec =
     add-kind
     loop-less
     loop-again
-    same-length
     returns)
