@@ -1,13 +1,13 @@
--- The round goes on: the message arrives, is handed out, and base news goes back; so one message after the other up to 16,383 passes.
+-- The round goes on: the message arrives and the test lets it pass, it is handed out, and base news goes back; so one message after the other passes.
 -- Assumes nothing.
-use Prim.Native.Nat.{ℕ, suc, _+_, _%_, _≤_, _<_}
+use Prim.Native.Nat.{ℕ, suc, _%_, _≤_, _<_}
 use mathlib.Core.Path.{_≡_, refl, sym, ap, subst, _∙_}
 use mathlib.Core.Bool.{Bool, true, false}
 use mathlib.Core.List.{List, [], _∷_, List·Memᴰ·head}
 use native.Mathlib.Omega.{arith}
 use lib.Dec.{lit≤, ltb, leb, eqb}
 use lib.ListN.{length, take, drop, length-append}
-use borrow.Author.Tests.{le-ltb, le-leb, lt-ltb}
+use borrow.Author.Tests.{le-leb, lt-ltb}
 use Rattle.ground.specs.Pick.{pick}
 use Rattle.ground.proofs.Picks.{pick-by}
 use Rattle.field.specs.Word.{channelOf, numberOf}
@@ -34,8 +34,7 @@ use Rattle.promise.specs.Past.{Mark, Packet, Past, there, renewed, enter, enter
 use Rattle.promise.specs.Run.{Gateway, does, after, given, lineAt, Each, none, also, Recent, Honest, rankedMark, baseMark, emptyPacket, handed, wrote, heard}
 use Rattle.promise.specs.Promise.{receivesBy, AllCame}
 use Rattle.promise.specs.Demand3.{Serves}
-use Rattle.refuted.specs.Idle.{ignored}
-use Rattle.refuted.specs.Quick.{expected, isOlder}
+use Rattle.refuted.specs.Idle.{expected, ignored}
 use Rattle.promise.proofs.OwnLine.{call-passes, line-left}
 use Rattle.promise.proofs.StepsKeep.{run-kept}
 use Rattle.promise.proofs.Promised.{all-have}
@@ -81,7 +80,7 @@ news-base l s k nothing c b e t =
     ∙ all-acked (ackList (acksAt s)) (heardLine l (headAt s .channel) (headAt s .base))
     ∙ ap (λ (x : ℕ). heardLine l x (headAt s .base) .sending1 .base) c ∙ base-heard (l .sending1) k (headAt s .base) e t b
 
-module _ {k : ℕ} (less : k < 16384) (a : At k) where
+module _ {test : ℕ → ℕ → Bool} {k : ℕ} (less : k < 16384) (a : At test k) (passes : test k k ≡ false) (first : test 0 0 ≡ false) where
   abbrev few : k ≤ 16384
   few = omega arith
 
@@ -94,12 +93,14 @@ module _ {k : ℕ} (less : k < 16384) (a : At k) where
   abbrev s : List ℕ
   s = packet few a .octets
 
-  -- by size it is no older: both take it in
-  not-older : isOlder s (h .book) ≡ false
-  not-older = le-ltb (headAt s .number) (expected s (h .book)) (omega (arith, said-number few a, next-there few a, less))
+  -- the test lets it pass: both take it in
+  not-ignored : test (headAt s .number) (expected s (h .book)) ≡ false
+  not-ignored =
+      let n : headAt s .number ≡ k = omega (arith, said-number few a, less) in
+      (λ i. test (n i) (next-there few a i)) ∙ passes
 
-  same : does f h comes [] ≡ does resultOf h comes []
-  same = ap (λ (b : Bool). pick b (ignored s (h .book) (h .store) []) (resultOf comes (h .book) (h .store) [])) not-older
+  same : does (f test) h comes [] ≡ does resultOf h comes []
+  same = ap (λ (b : Bool). pick b (ignored s (h .book) (h .store) []) (resultOf comes (h .book) (h .store) [])) not-ignored
 
   let-in : Serves resultOf h 0 comes []
   let-in = served (turned (t₂ few a)) .arrives s (packet few a) (honest few a) [] .1
@@ -110,7 +111,7 @@ module _ {k : ℕ} (less : k < 16384) (a : At k) where
   abbrev q₁ : Past
   q₁ = heardPast (a .q) (packet few a)
 
-  t₃ : Twin h₁ q₁ (g₂ few a) (p₂ few a)
+  t₃ : Twin test h₁ q₁ (g₂ few a) (p₂ few a)
   t₃ =
       alike (turned (t₂ few a)) comes [] (a .twin .yours .0) let-in same (heard s (packet few a) (here few a) (a .twin .yours .1) (honest few a))
       (heard s (packet few a) (here few a) (a .twin .yours .1) (honest few a))
@@ -137,7 +138,7 @@ module _ {k : ℕ} (less : k < 16384) (a : At k) where
   abbrev q₂ : Past
   q₂ = handedPast q₁ 1 (given (does resultOf h₁ handing space))
 
-  t₄ : Twin h₂ q₂ (g₂ few a) (p₂ few a)
+  t₄ : Twin test h₂ q₂ (g₂ few a) (p₂ few a)
   t₄ = alike t₃ handing space (a .twin .yours .0) gives refl (handed 1 (gives .accepted)) (handed 1 (gives .accepted))
 
   handed₂ : length (q₂ .handed 1) ≡ suc k
@@ -159,7 +160,7 @@ module _ {k : ℕ} (less : k < 16384) (a : At k) where
   abbrev q₃ : Past
   q₃ = wrotePast q₂ news
 
-  t₅ : Twin h₃ q₃ (g₂ few a) (p₂ few a)
+  t₅ : Twin test h₃ q₃ (g₂ few a) (p₂ few a)
   t₅ = alike t₄ telling space (a .twin .yours .0) tells refl (wrote 1 (tells .accepted)) (wrote 1 (tells .accepted))
 
   owes₂ : q₂ .owes ≡ rankedMark (g₁ few a) 0 1 (ranked few a .0) ∷ []
@@ -190,12 +191,12 @@ module _ {k : ℕ} (less : k < 16384) (a : At k) where
   hears : (lineFor back (g₂ few a .book) ≡ 0) × Serves resultOf (g₂ few a) 0 back []
   hears = served (turned t₅) .arrives (news .octets) news honest₃ []
 
-  same₃ : does f (g₂ few a) back [] ≡ does resultOf (g₂ few a) back []
+  same₃ : does (f test) (g₂ few a) back [] ≡ does resultOf (g₂ few a) back []
   same₃ =
       let g = g₂ few a in
       let next : expected (news .octets) (g .book) ≡ 0
       = (λ i. receivingOf (lineOf (g .book) (hears .0 i)) (head i .channel) .next) ∙ next-is t₅ ∙ ap length (a .deaf) in
-      let e : isOlder (news .octets) (g .book) ≡ false = le-ltb (headAt (news .octets) .number) (expected (news .octets) (g .book)) (omega (arith, next)) in
+      let e : test (headAt (news .octets) .number) (expected (news .octets) (g .book)) ≡ false = (λ i. test (head i .number) (next i)) ∙ first in
       ap (λ (b : Bool). pick b (ignored (news .octets) (g .book) (g .store) []) (resultOf back (g .book) (g .store) [])) e
 
   abbrev g₃ : Gateway
@@ -204,7 +205,7 @@ module _ {k : ℕ} (less : k < 16384) (a : At k) where
   abbrev p₃ : Past
   p₃ = heardPast (p₂ few a) news
 
-  t₆ : Twin g₃ p₃ h₃ q₃
+  t₆ : Twin test g₃ p₃ h₃ q₃
   t₆ =
       alike (turned t₅) back [] (a .twin .mine .0) (hears .1) same₃ (heard (news .octets) news (hears .0) (t₅ .yours .1) honest₃)
       (heard (news .octets) news (hears .0) (t₅ .yours .1) honest₃)
@@ -216,7 +217,7 @@ module _ {k : ℕ} (less : k < 16384) (a : At k) where
       ap (λ (l : Line). l .sending1 .base) (line-left (run-kept (turned t₅ .ours) .mine) back [] (hears .0) (call-passes (g₂ few a) back [] (hears .1 .accepted)))
       ∙ news-base (lineAt (g₂ few a) 0) (news .octets) k empty (ap (λ (x : Head). x .channel) head) b (base₂ few a) (taken-is (turned t₅) ∙ taken₁ few a)
 
-  pub round : At (suc k)
+  pub round : At test (suc k)
   unfolding enterAll
   round =
       record {

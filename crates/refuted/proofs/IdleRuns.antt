@@ -1,9 +1,8 @@
--- The idle builds that store nothing, hold nothing or serve only the first message do not meet demand 3: a small run of each, computed, shows it.
+-- The idle builds that store nothing or hold nothing do not meet demand 3: a small run of each, computed, shows it.
 -- Assumes nothing.
 use Prim.Native.Nat.{ℕ, zero, suc}
 use mathlib.Core.Path.{_≡_, refl, ap}
 use mathlib.Core.List.{List, [], _∷_, List·Memᴰ·head}
-use mathlib.Core.Logic.{⊎-elim}
 use native.Mathlib.Omega.{arith}
 use lib.Dec.{lit≤, lit<}
 use lib.ListN.{length, replicate}
@@ -15,10 +14,10 @@ use Rattle.packet.specs.Read.{headAt, numberAt, baseAt, acksAt, ackAt, payloadO
 use Rattle.packet.specs.Read as reading
 use Rattle.packet.specs.Write.{packetOctets}
 use Rattle.places.specs.Places.{maskOf, setOf, setBelow, lowest, rankOf}
-use Rattle.sending.specs.Sending.{tookOne, heardBase, ackedBy, heldOf, sendingFits}
-use Rattle.receiving.specs.Receiving.{arrivalOf, storedAt, receivingFits}
+use Rattle.sending.specs.Sending.{tookOne, heldOf, sendingFits}
+use Rattle.receiving.specs.Receiving.{receivingFits}
 use Rattle.channel.specs.Sizes as sizes
-use Rattle.owed.specs.Owed.{member, enters, entered, firstThree, withoutThree, noTwice, allSpans, owedFits}
+use Rattle.owed.specs.Owed.{member, firstThree, withoutThree, noTwice, allSpans, owedFits}
 use Rattle.mode.specs.Fit.{modesFit}
 use Rattle.mode.specs.Given.{modem}
 use Rattle.mode.specs.Moved.{channelsFor, timed, moved}
@@ -28,24 +27,20 @@ use Rattle.line.specs.Fit.{lineFits}
 use Rattle.line.specs.Mode.{steppedTo}
 use Rattle.store.specs.Store.{regionOf}
 use Rattle.writing.specs.Write.{acksFor, wroteLine, baseFor}
-use Rattle.writing.specs.Write as writes
 use Rattle.writing.specs.Send.{heldPacket}
-use Rattle.arriving.specs.Effect.{heardLine, ackedLine, ackedAll, storedLine, storedStore}
-use Rattle.arriving.specs.Arrive.{newsLine, arrivedLine, arrivedStore}
 use Rattle.book.specs.Resting.{allSpan}
 use Rattle.book.specs.Book.{openIn, linesFit, bookFits, ownerFrom}
 use Rattle.calls.specs.Call.{Call}
 use Rattle.calls.specs.Call as call
-use Rattle.calls.specs.Order.{openOrder, askOrder, takeOrder, sendOrder, handOutOrder, emptyOrder, arriveOrder, order, lineFor}
+use Rattle.calls.specs.Order.{openOrder, askOrder, takeOrder, sendOrder, handOutOrder, arriveOrder, order, lineFor}
 use Rattle.calls.specs.Result.{resultOf, acceptedResult, effect}
 use Rattle.promise.specs.Build.{Does}
 use Rattle.promise.specs.Past.{Packet, Past, nothingYet, justOpened, tookPast, wrotePast, heardPast}
-use Rattle.promise.specs.Past as marks
-use Rattle.promise.specs.Run.{Gateway, freshWith, does, after, sentPacket, emptyPacket, none, also, Honest, took, sent, wrote, heard, moded, opens, calls, Goes, stay, here, there, Run}
+use Rattle.promise.specs.Run.{Gateway, freshWith, does, after, sentPacket, none, also, Honest, took, sent, heard, moded, opens, calls, Goes, stay, here, there, Run}
 use Rattle.promise.specs.Promise.{AllCame, HandsOut}
 use Rattle.promise.specs.Promise as promise
 use Rattle.promise.specs.Demand3.{Demand3}
-use Rattle.refuted.specs.Idle.{Arrives, instead, arriving, lets, forgets, holdsNothing, loses, storesNothing, skips, firstOnly}
+use Rattle.refuted.specs.Idle.{Arrives, instead, arriving, lets, forgets, holdsNothing, loses, storesNothing}
 use Rattle.refuted.proofs.IdlePackets.{zeros, named}
 
 abbrev opening : Call
@@ -141,43 +136,3 @@ stores-nothing-fails d =
         → q′ .handed 1 ≡ (7 ∷ []) ∷ [] → ⊥
     none-out promise.done e = let n : _≡_ {A = ℕ} 0 1 = ap length e in omega (arith, n)
     none-out (promise.next t more) e = clash t
-
--- Serving only the first: 7 and 8 are taken, 8 is written and arrives unread, and its acknowledgement comes back.
-abbrev store1 : Does
-store1 = arriving skips
-
-abbrev both : Gateway
-both = after store1 (holds skips) (take skips 8) []
-
-abbrev bothPast : Past
-bothPast = tookPast (past skips) 1 (8 ∷ [])
-
-abbrev store2 : Packet
-store2 = sentPacket both bothPast 0 1 1 (does store1 both (call.sending 0 1 1) (space skips))
-
-abbrev skipped : Gateway
-skipped = after store1 (start skips) (call.arrival (store2 .octets)) []
-
-abbrev skippedPast : Past
-skippedPast = heardPast justOpened store2
-
-abbrev ack : Packet
-ack = emptyPacket skipped skippedPast 0 0 (does store1 skipped (call.empty 0 0) (space skips))
-
--- message 8 waits, and is held at neither end
-pub first-only-fails : Demand3 firstOnly → ⊥
-unfolding resultOf acceptedResult effect order lineFor openOrder askOrder bookFits linesFit allSpan openIn lineFits member noTwice allSpans owedFits modesFit sendingFits receivingFits maskOf setOf sizes.sizesFit every askStep moved timed channelsFor steppedTo takeOrder tookOne regionOf sendOrder heldPacket heldOf rankOf lowest setBelow acksFor firstThree baseFor wroteLine packetOctets withoutThree arriveOrder ownerFrom headAt numberAt baseAt acksAt ackAt acksServed payloadOf reading.sizeFits bitsAt arrivedLine newsLine heardLine heardBase ackedAll ackedLine ackedBy storedLine arrivalOf storedAt entered enters arrivedStore storedStore emptyOrder writes.emptyPacket marks.there marks.renewed marks.enter marks.enterAll
-first-only-fails d =
-    let w = here (there (there (here (here (here (begun resultOf resultOf skips)
-    (calls refl (take skips 7) [] refl (λ _. refl) (took 1 (7 ∷ []) refl)))
-    (calls refl (take skips 8) [] refl (λ _. refl) (took 1 (8 ∷ []) refl)))
-    (calls refl (call.sending 0 1 1) (space skips) refl (λ _. refl) (sent 1 1 refl)))
-    (calls refl (call.arrival (store2 .octets)) [] refl (λ _. refl)
-    (heard (store2 .octets) store2 refl refl (record { written = List·Memᴰ·head refl; same = refl; carries = also (lit< tt) none; names = also (lit< tt) none; acks = none }))))
-    (calls refl (call.empty 0 0) (space skips) refl (λ _. refl) (wrote 0 refl)))
-    (calls refl (call.arrival (ack .octets)) [] refl (λ _. refl)
-    (heard (ack .octets) ack refl refl (record { written = List·Memᴰ·head refl; same = refl; carries = none; names = none; acks = also (lit< tt) none }))) in
-    ⊎-elim (λ e. gone e) (λ e. gone e) (d .promised (run store1 w) .there 1 refl .held 1 (lit≤ tt) (lit< tt) .1)
-  where
-    gone : _≡_ {A = List ℕ} [] (8 ∷ []) → ⊥
-    gone e = let n : _≡_ {A = ℕ} 0 1 = ap length e in omega (arith, n)

@@ -1,9 +1,9 @@
 pub mod Idle
 pub mod IdlePackets
 pub mod IdleRuns
+pub mod Ignoring
 pub mod LineByCaller
 pub mod RoomByAck
 pub mod Twins
 pub mod Rounds
 pub mod Answered
-pub mod NumbersBySize

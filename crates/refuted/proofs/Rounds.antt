@@ -1,8 +1,9 @@
--- A message of channel 1 after the other is taken, sent, handed out and answered with base news, up to message 16,383: so far the build that
--- compares sequence numbers by size does what ours does.
+-- A message of channel 1 after the other is taken, sent, handed out and answered with base news, as long as the test of a build that ignores
+-- messages by it lets them pass: so far it does what ours does.
 -- Assumes nothing.
 use Prim.Native.Nat.{ℕ, suc, _%_, _≤_, _<_}
 use mathlib.Core.Path.{_≡_, refl, sym, ap, subst, _∙_}
+use mathlib.Core.Bool.{Bool}
 use mathlib.Core.List.{List, [], _∷_, List·Memᴰ·head}
 use mathlib.Core.Logic.{⊎-elim}
 use native.Mathlib.Omega.{arith}
@@ -26,7 +27,7 @@ use Rattle.promise.specs.Past.{Mark, Packet, Past, tookPast, wrotePast}
 use Rattle.promise.specs.Run.{Gateway, does, after, lineAt, Each, none, also, Recent, Honest, rankedMark, baseMark, sentPacket, took, sent}
 use Rattle.promise.specs.Promise.{sendsBy, reportBy}
 use Rattle.promise.specs.Demand3.{Serves}
-use Rattle.refuted.specs.Quick.{expected}
+use Rattle.refuted.specs.Idle.{expected}
 use Rattle.promise.proofs.OwnLine.{call-passes, line-left}
 use Rattle.promise.proofs.StepsKeep.{run-kept}
 use Rattle.promise.proofs.Demand2.{ours-demand2}
@@ -40,12 +41,12 @@ abbrev pub message : Message
 message = 7 ∷ []
 
 -- k messages were taken, handed out, and their slots are free again; nothing is owed, and nothing goes the other way
-pub record At (k : ℕ) : Type 0 where
+pub record At (test : ℕ → ℕ → Bool) (k : ℕ) : Type 0 where
   pub g : Gateway
   pub p : Past
   pub h : Gateway
   pub q : Past
-  pub twin : Twin g p h q
+  pub twin : Twin test g p h q
   pub taken : length (p .taken 1) ≡ k
   pub handed : length (q .handed 1) ≡ k
   pub base : lineAt g 0 .sending1 .base ≡ k
@@ -55,8 +56,8 @@ pub record At (k : ℕ) : Type 0 where
   pub deaf : p .handed 1 ≡ []
 
 -- Message k is taken and written.
-module _ {k : ℕ} (few : k ≤ 16384) (a : At k) where
-  abbrev t : Twin (a .g) (a .p) (a .h) (a .q)
+module _ {test : ℕ → ℕ → Bool} {k : ℕ} (few : k ≤ 16384) (a : At test k) where
+  abbrev t : Twin test (a .g) (a .p) (a .h) (a .q)
   t = a .twin
 
   abbrev pub taking : Call
@@ -71,7 +72,7 @@ module _ {k : ℕ} (few : k ≤ 16384) (a : At k) where
   takes : Serves resultOf (a .g) 0 taking []
   takes = served t .takes 1 refl message (lit≤ tt) (lit≤ tt) (omega (arith, S-is t, a .taken, few)) (omega (arith, S-is t, h-is t, a .taken, a .base)) []
 
-  pub t₁ : Twin g₁ p₁ (a .h) (a .q)
+  pub t₁ : Twin test g₁ p₁ (a .h) (a .q)
   t₁ = alike t taking [] (t .mine .0) takes refl (took 1 message (takes .accepted)) (took 1 message (takes .accepted))
 
   pub taken₁ : length (p₁ .taken 1) ≡ suc k
@@ -109,7 +110,7 @@ module _ {k : ℕ} (few : k ≤ 16384) (a : At k) where
   abbrev pub p₂ : Past
   p₂ = wrotePast p₁ packet
 
-  pub t₂ : Twin g₂ p₂ (a .h) (a .q)
+  pub t₂ : Twin test g₂ p₂ (a .h) (a .q)
   t₂ = alike t₁ sending space (t .mine .0) sends refl (sent 1 (ranked .0) (sends .accepted)) (sent 1 (ranked .0) (sends .accepted))
 
   pub base₂ : lineAt g₂ 0 .sending1 .base ≡ k

@@ -1,5 +1,5 @@
--- A run of ours that is one of the build that compares sequence numbers by size as well, as long as it does what ours does; and what such a run
--- shows of channel 1.
+-- A run of ours that is one of a build that ignores messages by a test as well, as long as it does what ours does; and what such a run shows of
+-- channel 1.
 -- Assumes nothing.
 use Prim.Native.Nat.{ℕ}
 use mathlib.Core.Path.{_≡_, refl, sym, ap, subst, _∙_}
@@ -19,39 +19,38 @@ use Rattle.promise.specs.Promise.{sendsBy, receivesBy, InRelay}
 use Rattle.promise.specs.Ends.{sendsOf, receivesOf}
 use Rattle.promise.specs.Demand2.{Ready}
 use Rattle.promise.specs.Demand3.{Serves, Served}
-use Rattle.refuted.specs.Idle.{arriving}
-use Rattle.refuted.specs.Quick.{older}
+use Rattle.refuted.specs.Idle.{arriving, ignores}
 use Rattle.promise.proofs.Phases.{is-open}
 use Rattle.promise.proofs.StepsKeep.{run-kept}
 use Rattle.promise.proofs.Demand3.{turned-run, promised, ours-demand3}
 
-abbrev pub f : Does
-f = arriving older
+abbrev pub f : (ℕ → ℕ → Bool) → Does
+f test = arriving (ignores test)
 
 -- line 0 of both, identifier 5 and type 98
-pub record Twin (g : Gateway) (p : Past) (h : Gateway) (q : Past) : Type 0 where
+pub record Twin (test : ℕ → ℕ → Bool) (g : Gateway) (p : Past) (h : Gateway) (q : Past) : Type 0 where
   pub ours : Run resultOf 0 0 5 98 g p h q
-  pub sized : Run f 0 0 5 98 g p h q
+  pub sized : Run (f test) 0 0 5 98 g p h q
   pub mine : InRelay g 0 p
   pub yours : InRelay h 0 q
 
-pub turned : {g h : Gateway} {p q : Past} → Twin g p h q → Twin h q g p
+pub turned : {test : ℕ → ℕ → Bool} {g h : Gateway} {p q : Past} → Twin test g p h q → Twin test h q g p
 turned t = record { ours = turned-run (t .ours); sized = turned-run (t .sized); mine = t .yours; yours = t .mine }
 
 -- a run goes on with a step
 pub goes-on : {d : Does} {g g′ h : Gateway} {p p′ q : Past} → Run d 0 0 5 98 g p h q → Step d 0 5 98 q g p g′ p′ → Run d 0 0 5 98 g′ p′ h q
 goes-on r s = record { store1 = r .store1; store2 = r .store2; lines = r .lines; long = r .long; goes = here (r .goes) s }
 
-module _ {g h : Gateway} {p q : Past} (t : Twin g p h q) where
+module _ {test : ℕ → ℕ → Bool} {g h : Gateway} {p q : Past} (t : Twin test g p h q) where
   pub served : Served resultOf 0 0 5 98 g p h q
   served = ours-demand3 .served (t .ours) (t .mine)
 
   -- a call that both do alike
-  pub alike : (c : Call) (out : List ℕ) {p′ : Past} → p′ .opened ≡ true → Serves resultOf g 0 c out → does f g c out ≡ does resultOf g c out → Adds resultOf 0 g p q out c p′ → Adds f 0 g p q out c p′
-      → Twin (after resultOf g c out) p′ h q
+  pub alike : (c : Call) (out : List ℕ) {p′ : Past} → p′ .opened ≡ true → Serves resultOf g 0 c out → does (f test) g c out ≡ does resultOf g c out → Adds resultOf 0 g p q out c p′ → Adds (f test) 0 g p q out c p′
+      → Twin test (after resultOf g c out) p′ h q
   alike c out {p′} o s same a b =
-      let step : Step f 0 5 98 q g p (after resultOf g c out) p′
-      = subst (λ (d : CallResult). Step f 0 5 98 q g p (record { book = d .book; store = d .store }) p′) same
+      let step : Step (f test) 0 5 98 q g p (after resultOf g c out) p′
+      = subst (λ (d : CallResult). Step (f test) 0 5 98 q g p (record { book = d .book; store = d .store }) p′) same
       (calls (t .mine .0) c out (subst (λ (d : CallResult). lineOf (d .book) 0 .opened ≡ true) (sym same) (s .opened))
       (λ _. subst (λ (d : CallResult). lineOf (d .book) 0 .modes .local ≡ 3) (sym same) (s .inside)) b) in
       record { ours = goes-on (t .ours) (calls (t .mine .0) c out (s .opened) (λ _. s .inside) a); sized = goes-on (t .sized) step; mine = (o, s .inside); yours = t .yours }

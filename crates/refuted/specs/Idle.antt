@@ -1,14 +1,15 @@
 -- IDLE BUILDS: what an empty build would do, written down as builds. Each is shown to fail a demand.
 -- Assumes nothing.
 use Prim.Native.Nat.{ℕ}
+use mathlib.Core.Bool.{Bool}
 use mathlib.Core.List.{List, [], _∷_, _++_}
-use lib.Dec.{eqb}
+use lib.Dec.{ltb}
 use lib.ListN.{length, drop}
 use Rattle.ground.specs.Answer.{accepted, refused}
 use Rattle.ground.specs.Pick.{pick}
 use Rattle.ground.specs.declared.Refusal.{Refusal}
 use Rattle.packet.specs.Read.{headAt}
-use Rattle.line.specs.Line.{withSides}
+use Rattle.line.specs.Line.{receivingOf, withSides}
 use Rattle.line.specs.declared.Line.{Line}
 use Rattle.book.specs.Book.{lineOf, withLine}
 use Rattle.book.specs.declared.Book.{Book}
@@ -104,9 +105,20 @@ ignored s b store out =
     let i = lineFor (call.arrival s) b in
     resultWith (d .answer) (withLine b i (unread (lineOf b i) (lineOf (d .book) i))) store out
 
+-- the number that the line's channel expects next
+abbrev pub expected : List ℕ → Book → ℕ
+expected s b = receivingOf (lineOf b (lineFor (call.arrival s) b)) (headAt s .channel) .next
+
+-- so is every message of which a test of its number, and of the one expected next, says so; any other is taken in as by ours
+abbrev pub ignores : (ℕ → ℕ → Bool) → Arrives
+ignores test s b store out = pick (test (headAt s .number) (expected s b)) (ignored s b store out) (resultOf (call.arrival s) b store out)
+
 -- "one serving only the first message and acknowledging the later ones unread"
+abbrev pub isLater : ℕ → ℕ → Bool
+isLater number next = ltb 0 number
+
 abbrev pub skips : Arrives
-skips s b store out = pick (eqb (headAt s .number) 0) (resultOf (call.arrival s) b store out) (ignored s b store out)
+skips = ignores isLater
 
 abbrev pub firstOnly : Build
 firstOnly = doing (arriving skips)

@@ -3,25 +3,22 @@
 -- Assumes nothing.
 use Prim.Native.Nat.{ℕ}
 use mathlib.Core.Bool.{Bool}
-use mathlib.Core.List.{List, _∷_}
+use mathlib.Core.List.{_∷_}
 use lib.Dec.{ltb}
 use lib.ListN.{drop, getD}
-use Rattle.ground.specs.Pick.{pick}
-use Rattle.packet.specs.Read.{headAt}
 use Rattle.places.specs.Places.{maskOf, rankOf}
 use Rattle.places.specs.declared.Place.{Place}
 use Rattle.places.specs.declared.Place.the-variants.{At, Missing}
 use Rattle.sending.specs.Sending.{underWay, movedBy}
 use Rattle.sending.specs.declared.Sending.{Sending}
-use Rattle.line.specs.Line.{receivingOf, withSides}
+use Rattle.line.specs.Line.{withSides}
 use Rattle.line.specs.declared.Line.{Line}
 use Rattle.book.specs.Book.{lineOf, withLine, openIn}
-use Rattle.book.specs.declared.Book.{Book}
 use Rattle.calls.specs.Call as call
 use Rattle.calls.specs.Order.{lineFor}
 use Rattle.calls.specs.Result.{resultWith, resultOf}
 use Rattle.promise.specs.Build.{Build}
-use Rattle.refuted.specs.Idle.{Arrives, doing, arriving, ignored}
+use Rattle.refuted.specs.Idle.{Arrives, doing, arriving, ignores}
 
 -- "Taking the line from the caller and not from the packet's identifier": the packet goes to the first open line
 abbrev pub misleads : Arrives
@@ -50,14 +47,11 @@ abbrev pub freesOnAck : Build
 freesOnAck = doing (arriving frees)
 
 -- "Comparing sequence numbers by size": a message whose number is below R is an old one
-abbrev pub expected : List ℕ → Book → ℕ
-expected s b = receivingOf (lineOf b (lineFor (call.arrival s) b)) (headAt s .channel) .next
-
-abbrev pub isOlder : List ℕ → Book → Bool
-isOlder s b = ltb (headAt s .number) (expected s b)
+abbrev pub isOlder : ℕ → ℕ → Bool
+isOlder number next = ltb number next
 
 abbrev pub older : Arrives
-older s b store out = pick (isOlder s b) (ignored s b store out) (resultOf (call.arrival s) b store out)
+older = ignores isOlder
 
 abbrev pub bySize : Build
 bySize = doing (arriving older)

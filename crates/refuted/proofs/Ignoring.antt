@@ -1,15 +1,15 @@
--- The build that compares sequence numbers by size does not meet demand 3: its stream stops at message 16,383. The next one has number 0 and is
--- taken for an old one: it has come, and cannot be handed out.
+-- A build that ignores messages by a test does not meet demand 3: the first one that the test does not let pass has come, and cannot be handed out.
+-- By size that is message 16,384, whose number is 0 and seems old; where only the first message is served, it is the second.
 -- Assumes nothing.
-use Prim.Native.Nat.{ℕ, zero, suc, _≤_}
+use Prim.Native.Nat.{ℕ, zero, suc, _%_, _≤_, _<_}
 use mathlib.Core.Path.{_≡_, refl, sym, ap, subst, _∙_}
-use mathlib.Core.Bool.{Bool, true}
+use mathlib.Core.Bool.{Bool, true, false}
 use mathlib.Core.List.{List, [], List·Memᴰ·head}
 use native.Mathlib.Nat.{sub-self}
 use native.Mathlib.Omega.{arith}
 use lib.Dec.{lit≤, lit<}
 use lib.ListN.{length}
-use borrow.Author.Tests.{lt-ltb}
+use borrow.Author.Tests.{le-ltb}
 use Rattle.ground.specs.Every.{every}
 use Rattle.ground.specs.Pick.{pick}
 use Rattle.ground.proofs.Verdicts.{passed}
@@ -51,8 +51,8 @@ use Rattle.promise.specs.Promise.{receivesBy, AllCame, HandsOut}
 use Rattle.promise.specs.Promise as promise
 use Rattle.promise.specs.Ends.{slotsOf, receivesOf}
 use Rattle.promise.specs.Demand3.{Serves, Demand3}
-use Rattle.refuted.specs.Idle.{unread, ignored}
-use Rattle.refuted.specs.Quick.{expected, isOlder, older, bySize}
+use Rattle.refuted.specs.Idle.{doing, arriving, unread, ignored, expected, ignores, isLater, firstOnly}
+use Rattle.refuted.specs.Quick.{isOlder, bySize}
 use Rattle.promise.proofs.Views.{slots-hold}
 use Rattle.promise.proofs.Ends.{Sides, gets-ok, relay-sides}
 use Rattle.promise.proofs.OwnLine.{call-passes}
@@ -67,9 +67,9 @@ use Rattle.refuted.proofs.Rounds.{At, space}
 use Rattle.refuted.proofs.Answered.{round}
 
 -- the two begin, in a run of ours and of this build alike
-start : At 0
+start : (test : ℕ → ℕ → Bool) → At test 0
 unfolding resultOf acceptedResult effect order lineFor openOrder askOrder bookFits linesFit allSpan openIn lineFits member noTwice allSpans owedFits modesFit sendingFits receivingFits maskOf setOf sizes.sizesFit every askStep moved timed channelsFor steppedTo
-start =
+start test =
     let opening : Call = call.opening 0 (named 5) 0 in
     let asks : Call = call.mode 0 (ask modem 0) in
     let g : Gateway = after resultOf (after resultOf fresh opening []) asks [] in
@@ -84,7 +84,7 @@ start =
       p = justOpened;
       h = g;
       q = justOpened;
-      twin = record { ours = run resultOf w; sized = run f (begun resultOf resultOf older); mine = (refl, refl); yours = (refl, refl) };
+      twin = record { ours = run resultOf w; sized = run (f test) (begun resultOf resultOf (ignores test)); mine = (refl, refl); yours = (refl, refl) };
       taken = refl;
       handed = refl;
       base = refl;
@@ -94,16 +94,7 @@ start =
       deaf = refl;
     }
 
--- message after message
-up-to : (k : ℕ) → k ≤ 16384 → At k
-up-to zero l = start
-up-to (suc k) l = round (omega arith) (up-to k (omega arith))
-
--- Message 16,384 arrives.
-module _ (a : At 16384) where
-  abbrev few : 16384 ≤ 16384
-  few = lit≤ tt
-
+module _ {test : ℕ → ℕ → Bool} {k : ℕ} (few : k ≤ 16384) (a : At test k) (caught : test (k % 16384) k ≡ true) where
   abbrev h : Gateway
   h = a .h
 
@@ -113,15 +104,15 @@ module _ (a : At 16384) where
   abbrev comes : Call
   comes = rounds.arrival few a
 
-  is-older : isOlder s (h .book) ≡ true
-  is-older = lt-ltb (headAt s .number) (expected s (h .book)) (omega (arith, rounds.said-number few a, rounds.next-there few a))
+  is-ignored : test (headAt s .number) (expected s (h .book)) ≡ true
+  is-ignored = (λ i. test (rounds.said-number few a i) (rounds.next-there few a i)) ∙ caught
 
   -- what is left of the far gateway
   abbrev left : CallResult
   left = ignored s (h .book) (h .store) []
 
-  ignores : does f h comes [] ≡ left
-  ignores = ap (λ (b : Bool). pick b left (resultOf comes (h .book) (h .store) [])) is-older
+  leaves : does (f test) h comes [] ≡ left
+  leaves = ap (λ (b : Bool). pick b left (resultOf comes (h .book) (h .store) [])) is-ignored
 
   abbrev h′ : Gateway
   h′ = record { book = left .book; store = left .store }
@@ -129,7 +120,7 @@ module _ (a : At 16384) where
   abbrev q′ : Past
   q′ = heardPast (a .q) (rounds.packet few a)
 
-  yours : Twin (a .h) (a .q) (rounds.g₂ few a) (rounds.p₂ few a)
+  yours : Twin test (a .h) (a .q) (rounds.g₂ few a) (rounds.p₂ few a)
   yours = turned (rounds.t₂ few a)
 
   -- its line has received nothing
@@ -148,12 +139,12 @@ module _ (a : At 16384) where
   within : lineAt h′ 0 .modes .local ≡ modem
   within = ap (λ (l : Line). l .modes .local) line ∙ let-in .inside
 
-  gone : Run f 0 0 5 98 (rounds.g₂ few a) (rounds.p₂ few a) h′ q′
+  gone : Run (f test) 0 0 5 98 (rounds.g₂ few a) (rounds.p₂ few a) h′ q′
   gone =
-      let step : Step f 0 5 98 (rounds.p₂ few a) h (a .q) h′ q′
-      = subst (λ (d : CallResult). Step f 0 5 98 (rounds.p₂ few a) h (a .q) (record { book = d .book; store = d .store }) q′) ignores
-      (calls (yours .mine .0) comes [] (subst (λ (d : CallResult). lineOf (d .book) 0 .opened ≡ true) (sym ignores) opened)
-      (λ _. subst (λ (d : CallResult). lineOf (d .book) 0 .modes .local ≡ modem) (sym ignores) within)
+      let step : Step (f test) 0 5 98 (rounds.p₂ few a) h (a .q) h′ q′
+      = subst (λ (d : CallResult). Step (f test) 0 5 98 (rounds.p₂ few a) h (a .q) (record { book = d .book; store = d .store }) q′) leaves
+      (calls (yours .mine .0) comes [] (subst (λ (d : CallResult). lineOf (d .book) 0 .opened ≡ true) (sym leaves) opened)
+      (λ _. subst (λ (d : CallResult). lineOf (d .book) 0 .modes .local ≡ modem) (sym leaves) within)
       (heard s (rounds.packet few a) (rounds.here few a) (yours .mine .1) (rounds.honest few a))) in
       turned-run (goes-on (yours .sized) step)
 
@@ -176,7 +167,7 @@ module _ (a : At 16384) where
       omega (arith, below, R-is (a .twin), S-is (a .twin), a .taken, a .handed)
 
   -- so no hand-out gives more
-  none-out : {h″ : Gateway} {q″ : Past} → HandsOut f 0 1 (λ n. space) h′ q′ h″ q″ → q″ .handed 1 ≡ rounds.p₂ few a .taken 1 → ⊥
+  none-out : {h″ : Gateway} {q″ : Past} → HandsOut (f test) 0 1 (λ n. space) h′ q′ h″ q″ → q″ .handed 1 ≡ rounds.p₂ few a .taken 1 → ⊥
   unfolding handCallTests relayChannelTests
   none-out promise.done e = omega (arith, ap length e, a .handed, rounds.taken₁ few a)
   none-out (promise.next t more) e =
@@ -190,8 +181,20 @@ module _ (a : At 16384) where
       let e : n ≡ rankedMark (rounds.g₁ few a) 0 1 (rounds.ranked few a .0) .number = omega (arith, low, high, h-is t, S-is t, rounds.base₂ few a, rounds.taken₁ few a, rounds.number few a) in
       List·Memᴰ·head (λ i. record { channel = 1; number = e i })
 
+-- message after message passes before it
+module _ (test : ℕ → ℕ → Bool) (n : ℕ) (some : 0 < n) (few : n ≤ 16384) (passes : (k : ℕ) → k < n → test k k ≡ false) where
+  up-to : (k : ℕ) → k ≤ n → At test k
+  up-to zero l = start test
+  up-to (suc k) l = round (omega arith) (up-to k (omega arith)) (passes k (omega arith)) (passes 0 some)
+
+  ignoring-fails : test (n % 16384) n ≡ true → Demand3 (doing (arriving (ignores test))) → ⊥
+  ignoring-fails caught d =
+      let a = up-to n (omega arith) in
+      let e = d .ends (gone few a caught) (rounds.t₂ few a .mine) (yours few a caught .mine .0, within few a caught) 1 refl .all-out (came few a caught) (λ n. space) (λ n. lit≤ tt) in
+      none-out few a caught (e .hands) (e .all)
+
 pub by-size-fails : Demand3 bySize → ⊥
-by-size-fails d =
-    let a = up-to 16384 (lit≤ tt) in
-    let e = d .ends (gone a) (rounds.t₂ (few a) a .mine) (yours a .mine .0, within a) 1 refl .all-out (came a) (λ n. space) (λ n. lit≤ tt) in
-    none-out a (e .hands) (e .all)
+by-size-fails = ignoring-fails isOlder 16384 (lit< tt) (lit≤ tt) (λ k l. le-ltb k k (omega arith)) refl
+
+pub first-only-fails : Demand3 firstOnly → ⊥
+first-only-fails = ignoring-fails isLater 1 (lit< tt) (lit≤ tt) (λ k l. le-ltb 0 k (omega arith)) refl
