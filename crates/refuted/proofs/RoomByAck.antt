@@ -146,19 +146,35 @@ lostPast = heardPast answeredPast ninth
 abbrev late : Packet
 late = emptyPacket lost lostPast 0 0 (does f lost (call.empty 0 0) space)
 
--- then it is held at neither end
-pub frees-on-ack-fails : Demand3 freesOnAck → ⊥
+-- its acknowledgement is written there, and here it is dropped
+abbrev told : Gateway
+told = after f lost (call.empty 0 0) space
+
+abbrev toldPast : Past
+toldPast = wrotePast lostPast late
+
+abbrev dropped : Gateway
+dropped = after f (after f over (call.sending 0 2 7) space) (call.arrival (late .octets)) []
+
+abbrev droppedPast : Past
+droppedPast = heardPast (wrotePast overPast ninth) late
+
+overrun : Goes f 0 0 5 98 fresh nothingYet fresh nothingYet dropped droppedPast told toldPast
 unfolding resultOf acceptedResult effect order lineFor openOrder askOrder bookFits linesFit allSpan openIn lineFits member noTwice allSpans owedFits modesFit sendingFits receivingFits maskOf setOf sizes.sizesFit every askStep moved timed channelsFor steppedTo takeOrder tookOne regionOf sendOrder heldPacket heldOf rankOf lowest setBelow acksFor firstThree baseFor wroteLine packetOctets withoutThree arriveOrder ownerFrom headAt numberAt baseAt acksAt ackAt acksServed payloadOf reading.sizeFits bitsAt arrivedLine newsLine heardLine heardBase ackedAll ackedLine ackedBy storedLine arrivalOf storedAt entered enters arrivedStore storedStore emptyOrder writes.emptyPacket marks.there marks.renewed marks.enter marks.enterAll
-frees-on-ack-fails d =
-    let w = here (there (there (here (here acked
+overrun =
+    here (there (there (here (here acked
     (calls refl (taking 9) [] refl (λ _. refl) (took 2 (9 ∷ []) refl)))
     (calls refl (call.sending 0 2 7) space refl (λ _. refl) (sent 2 7 refl)))
     (calls refl (call.arrival (ninth .octets)) [] refl (λ _. refl)
     (heard (ninth .octets) ninth refl refl (record { written = List·Memᴰ·head refl; same = refl; carries = also (lit< tt) none; names = also (lit< tt) none; acks = none }))))
     (calls refl (call.empty 0 0) space refl (λ _. refl) (wrote 0 refl)))
     (calls refl (call.arrival (late .octets)) [] refl (λ _. refl)
-    (heard (late .octets) late refl refl (record { written = List·Memᴰ·head refl; same = refl; carries = none; names = none; acks = also (lit< tt) none }))) in
-    ⊎-elim (λ e. gone e) (λ e. gone e) (d .promised (run f w) .there 2 refl .held 8 (lit≤ tt) (lit< tt) .1)
+    (heard (late .octets) late refl refl (record { written = List·Memᴰ·head refl; same = refl; carries = none; names = none; acks = also (lit< tt) none })))
+
+-- then it is held at neither end
+pub frees-on-ack-fails : Demand3 freesOnAck → ⊥
+unfolding resultOf acceptedResult effect order lineFor openOrder askOrder bookFits linesFit allSpan openIn lineFits member noTwice allSpans owedFits modesFit sendingFits receivingFits maskOf setOf sizes.sizesFit every askStep moved timed channelsFor steppedTo takeOrder tookOne regionOf sendOrder heldPacket heldOf rankOf lowest setBelow acksFor firstThree baseFor wroteLine packetOctets withoutThree arriveOrder ownerFrom headAt numberAt baseAt acksAt ackAt acksServed payloadOf reading.sizeFits bitsAt arrivedLine newsLine heardLine heardBase ackedAll ackedLine ackedBy storedLine arrivalOf storedAt entered enters arrivedStore storedStore emptyOrder writes.emptyPacket marks.there marks.renewed marks.enter marks.enterAll
+frees-on-ack-fails d = ⊎-elim (λ e. gone e) (λ e. gone e) (d .promised (run f overrun) .there 2 refl .held 8 (lit≤ tt) (lit< tt) .1)
   where
     gone : _≡_ {A = List ℕ} [] (9 ∷ []) → ⊥
     gone e = let n : _≡_ {A = ℕ} 0 1 = ap length e in omega (arith, n)
