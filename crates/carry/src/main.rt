@@ -138,7 +138,7 @@ fn judge(out: &[u8], given: WriteAnswer, number: u64, size: usize, counts: &mut 
 }
 
 // Takes the message of a number.
-fn take(book: Book, store: &mut [u8], number: u64, size: usize) -> Book {
+fn take(book: Book, store: &mut [u8; 42240], number: u64, size: usize) -> Book {
     if 132 < size {
         return book;
     }
@@ -149,7 +149,7 @@ fn take(book: Book, store: &mut [u8], number: u64, size: usize) -> Book {
 }
 
 // A packet arrives, as it was written.
-fn arrive(book: Book, store: &mut [u8], packet: &[u8], sent: WriteAnswer) -> Book {
+fn arrive(book: Book, store: &mut [u8; 42240], packet: &[u8], sent: WriteAnswer) -> Book {
     let n = written(sent);
     if packet.len() < n {
         return book;
@@ -159,7 +159,13 @@ fn arrive(book: Book, store: &mut [u8], packet: &[u8], sent: WriteAnswer) -> Boo
 }
 
 // Hands out a message, and counts it where it is that of the number.
-fn hand_out(book: Book, store: &[u8], number: u64, size: usize, counts: &mut [u64; 3]) -> Book {
+fn hand_out(
+    book: Book,
+    store: &[u8; 42240],
+    number: u64,
+    size: usize,
+    counts: &mut [u64; 3],
+) -> Book {
     let mut out = [0u8; 132];
     let gave = gateway::hand_out(book, store, 0, 1, &mut out);
     let answer = gave.answer;
@@ -172,7 +178,7 @@ fn depart(
     mut book: Book,
     run: Run,
     number: u64,
-    store: &mut [u8],
+    store: &mut [u8; 42240],
     packet: &mut [u8],
     counts: &mut [u64; 3],
 ) -> Written {
@@ -187,7 +193,7 @@ fn land(
     mut book: Book,
     run: Run,
     number: u64,
-    store: &mut [u8],
+    store: &mut [u8; 42240],
     packet: &mut [u8],
     sent: WriteAnswer,
     counts: &mut [u64; 3],
@@ -204,7 +210,7 @@ fn land(
 fn hear(
     book: Book,
     run: Run,
-    store: &mut [u8],
+    store: &mut [u8; 42240],
     packet: &[u8],
     sent: WriteAnswer,
     counts: &mut [u64; 3],
@@ -218,8 +224,8 @@ fn turn(
     books: Books,
     run: Run,
     number: u64,
-    a: &mut [u8],
-    b: &mut [u8],
+    a: &mut [u8; 42240],
+    b: &mut [u8; 42240],
     counts: &mut [u64; 3],
 ) -> Books {
     let mut packet = [0u8; 144];
@@ -233,7 +239,7 @@ fn turn(
 }
 
 // Carries that many messages.
-fn carry(count: u64, run: Run, a: &mut [u8], b: &mut [u8], counts: &mut [u64; 3]) {
+fn carry(count: u64, run: Run, a: &mut [u8; 42240], b: &mut [u8; 42240], counts: &mut [u64; 3]) {
     let book = ready();
     let mut books = Books { a: book, b: book };
     let mut left = count;
@@ -261,7 +267,14 @@ fn bare(count: u64, size: usize, counts: &mut [u64; 3]) {
 }
 
 // A message of a line's channel is taken, and one of that number arrives. `marked` is the channel in a packet's third octet.
-fn filled(book: Book, store: &mut [u8], line: u8, channel: u8, marked: u8, number: u8) -> Book {
+fn filled(
+    book: Book,
+    store: &mut [u8; 42240],
+    line: u8,
+    channel: u8,
+    marked: u8,
+    number: u8,
+) -> Book {
     let packet = [line, 98, marked, number, 0, 0, 1, 2, 3];
     let took = gateway::take(book, store, line, channel, b"abc");
     let came = gateway::arrive(took.book, store, &packet);
@@ -269,7 +282,7 @@ fn filled(book: Book, store: &mut [u8], line: u8, channel: u8, marked: u8, numbe
 }
 
 // The same on both channels of a line, where channel 2 has a place for the number.
-fn both_filled(mut book: Book, store: &mut [u8], line: u8, number: u8) -> Book {
+fn both_filled(mut book: Book, store: &mut [u8; 42240], line: u8, number: u8) -> Book {
     book = filled(book, store, line, 1, 0x40, number);
     if 7 < number {
         return book;
@@ -278,7 +291,7 @@ fn both_filled(mut book: Book, store: &mut [u8], line: u8, number: u8) -> Book {
 }
 
 // A book whose windows are all full, and that owes 64 numbers on each line: 32 and 24 old ones of channel 1, and 8 of channel 2.
-fn full(mut book: Book, store: &mut [u8]) -> Book {
+fn full(mut book: Book, store: &mut [u8; 42240]) -> Book {
     let mut left = 224u8;
     while 0 < left {
         left -= 1;
@@ -288,7 +301,7 @@ fn full(mut book: Book, store: &mut [u8]) -> Book {
 }
 
 // The book that refused calls are made on.
-fn still(what: u8, store: &mut [u8]) -> Book {
+fn still(what: u8, store: &mut [u8; 42240]) -> Book {
     let book = ready();
     if what == FULL {
         return full(book, store);
@@ -297,7 +310,7 @@ fn still(what: u8, store: &mut [u8]) -> Book {
 }
 
 // Makes that many calls that are refused right after BOOK.
-fn refusals(count: u64, what: u8, store: &mut [u8], counts: &mut [u64; 3]) {
+fn refusals(count: u64, what: u8, store: &mut [u8; 42240], counts: &mut [u64; 3]) {
     let book = still(what, store);
     let mut left = count;
     while 0 < left {

@@ -1,12 +1,10 @@
 use borrow.Author.Needs.{needs}
 use native.Mathlib.Omega.{arith}
-use lib.ListN.{length}
-use mathlib.Core.Path.{_≡_}
 use Rattle.carry.proofs.carry.Statement.{statement}
 use Rattle.carry.proofs.carry.Tie as tie
 
 abbrev Inv-loop : tie.InvT-loop
-Inv-loop count run a₀ b₀ counts₀ books₀ left₀ a b counts books left = (length a ≡ length a₀) × (length b ≡ length b₀)
+Inv-loop count run a₀ b₀ counts₀ books₀ left₀ a b counts books left = Unit {0}
 
 abbrev μ-loop : tie.MeasureT-loop
 μ-loop count run a₀ b₀ counts₀ books₀ left₀ a b counts books left = left
@@ -29,12 +27,6 @@ loop-less c = omega arith
 loop-again : tie.Need-loop-again Inv-loop μ-loop
 loop-again c = omega arith
 
-same-length : tie.Need-same-length Inv-loop μ-loop
-same-length c = omega arith
-
-same-length-2 : tie.Need-same-length-2 Inv-loop μ-loop
-same-length-2 c = omega arith
-
 returns : tie.Need-returns Inv-loop μ-loop
 returns c = omega arith
 
@@ -50,6 +42,4 @@ carry-spec =
     sub-left
     loop-less
     loop-again
-    same-length
-    same-length-2
     returns)

@@ -1,13 +1,11 @@
 use borrow.Author.Needs.{needs}
 use native.Mathlib.Omega.{arith}
-use lib.ListN.{length}
-use mathlib.Core.Path.{_≡_}
 use Prim.Native.Nat.{_≤_}
 use Rattle.carry.proofs.full.Statement.{statement}
 use Rattle.carry.proofs.full.Tie as tie
 
 abbrev Inv-loop : tie.InvT-loop
-Inv-loop book₀ store₀ left₀ book store left = (left ≤ 224) × (length store ≡ length store₀)
+Inv-loop book₀ store₀ left₀ book store left = left ≤ 224
 
 abbrev μ-loop : tie.MeasureT-loop
 μ-loop book₀ store₀ left₀ book store left = left
@@ -30,9 +28,6 @@ loop-less c = omega arith
 loop-again : tie.Need-loop-again Inv-loop μ-loop
 loop-again c = omega arith
 
-same-length : tie.Need-same-length Inv-loop μ-loop
-same-length c = omega arith
-
 returns : tie.Need-returns Inv-loop μ-loop
 returns c = omega arith
 
@@ -48,5 +43,4 @@ full-spec =
     both-filled-requires
     loop-less
     loop-again
-    same-length
     returns)
