@@ -197,4 +197,7 @@ pub by-size-fails : Demand3 bySize → ⊥
 by-size-fails = ignoring-fails isOlder 16384 (lit< tt) (lit≤ tt) (λ k l. le-ltb k k (omega arith)) refl
 
 pub first-only-fails : Demand3 firstOnly → ⊥
-first-only-fails = ignoring-fails isLater 1 (lit< tt) (lit≤ tt) (λ k l. le-ltb 0 k (omega arith)) refl
+first-only-fails =
+    ignoring-fails isLater 1 (lit< tt) (lit≤ tt)
+    (λ k l. let first : k ≡ 0 = omega arith in ap (λ (n : ℕ). isLater n n) first)
+    refl
