@@ -15,7 +15,7 @@ use Rattle.ground.specs.declared.Refusal.the-variants.{SIZE}
 use Rattle.ground.specs.declared.Verdict.the-variants.{Pass}
 use Rattle.ground.proofs.Picks.{both-true, pick-lt}
 use Rattle.ground.proofs.Verdicts.{passes, verdict-on}
-use Rattle.places.specs.Places.{maskOf, bitOf, setBelow, rankOf}
+use Rattle.places.specs.Places.{maskOf, widest, bitOf, setBelow, rankOf}
 use Rattle.places.specs.declared.Place.the-variants.{At}
 use Rattle.places.proofs.Ranks.{rank-found, rank-of}
 use Rattle.channel.specs.Channel.{windowOf, cap}
@@ -161,7 +161,7 @@ module _ {i identifier kind : ℕ} {g : Gateway} {p : Past} (s : Sound i identif
         let d = n - k .base in
         let base : sendsBy g i p channel .h ≡ k .base = ap (λ (e : End). sent e channel .h) now in
         let bit : bitOf m d ≡ true = full-bit (windowOf channel) (slotsOf (g .store) i way.Sending channel) (k .sizes) m (k .origin) d (subst (λ (e : End). Full (sent e channel .held n)) now full) in
-        let near : d < 32 = omega (arith, j .there channel v .high, window-narrow channel) in
+        let near : d < widest = omega (arith, j .there channel v .high, window-narrow channel) in
         let r = rank-of m d near bit in
         (setBelow m d, r .1, ap (λ (x : Ranked). heldIn x .number) (ranked-is (lineAt g i) channel (setBelow m d) (r .0)) ∙ back (k .base) (omega arith))
       where
