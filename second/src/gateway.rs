@@ -50,7 +50,7 @@ impl Gateway {
     /// RANGE, NOLINE.
     fn open_line(&mut self, line: u8) -> Result<&mut Line, Refusal> {
         let line = self.record(line)?;
-        require(line.opened, Refusal::NoLine)?;
+        require(line.is_open(), Refusal::NoLine)?;
         Ok(line)
     }
 
@@ -64,7 +64,7 @@ impl Gateway {
     /// TAKEN for the line, RANGE, TAKEN for the identifier.
     pub fn open(&mut self, line: u8, settings: Settings, time: u64) -> Result<(), Refusal> {
         self.require_book()?;
-        require(!self.record(line)?.opened, Refusal::Taken)?;
+        require(!self.record(line)?.is_open(), Refusal::Taken)?;
         require(settings.in_range(), Refusal::Range)?;
         require(!self.is_taken(settings.identifier), Refusal::Taken)?;
         *self.record(line)? = Line::open(settings, time);
@@ -81,7 +81,7 @@ impl Gateway {
     fn line_of(&self, identifier: u8) -> Option<usize> {
         self.lines
             .iter()
-            .position(|line| line.opened && line.identifier == identifier)
+            .position(|line| line.is_open() && line.identifier == identifier)
     }
 
     /// NOLINE, ROOM. Gives the slip.

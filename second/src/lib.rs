@@ -14,6 +14,7 @@ pub mod breaks;
 pub mod channel;
 pub mod connect;
 pub mod desk;
+pub mod flag;
 pub mod gateway;
 pub mod generate;
 pub mod line;

@@ -1,6 +1,7 @@
 //! One line: its settings, its modes, both sides of both channels, and what it owes.
 
 use crate::channel::{carried, Channel, CAP};
+use crate::flag::Flag;
 use crate::modes::{Mode, Modes, Recovery};
 use crate::owed::Owed;
 use crate::packet::Packet;
@@ -59,7 +60,7 @@ impl Sides {
 
 #[derive(Clone, Debug)]
 pub struct Line {
-    pub opened: bool,
+    pub opened: Flag,
     pub identifier: u8,
     pub payload_type: u8,
     pub modes: Modes,
@@ -78,14 +79,14 @@ impl Line {
             relay: false,
         };
         Line {
-            opened: false,
+            opened: false.into(),
             ..Line::open(settings, 0)
         }
     }
 
     pub fn open(settings: Settings, time: u64) -> Line {
         Line {
-            opened: true,
+            opened: true.into(),
             identifier: settings.identifier,
             payload_type: settings.payload_type,
             modes: Modes::opened(settings.vbd, settings.relay, time),
@@ -93,6 +94,10 @@ impl Line {
             two: Sides::fresh(Channel::Two),
             owed: Owed::default(),
         }
+    }
+
+    pub fn is_open(&self) -> bool {
+        self.opened.is_set()
     }
 
     pub fn sides(&self, channel: Channel) -> &Sides {

@@ -2,6 +2,7 @@
 //!
 //! No clock is read. What a change of mode does to the channels is the line's business, not this file's.
 
+use crate::flag::Flag;
 use crate::refusal::{require, Refusal};
 
 /// A difference that lasts longer than this starts recovery; a try is due again when this has passed.
@@ -106,11 +107,11 @@ pub enum Tick {
 #[derive(Clone, Debug)]
 pub struct Modes {
     /// VBD is offered.
-    pub vbd: bool,
+    pub vbd: Flag,
     /// Modem relay is offered.
-    pub relay: bool,
+    pub relay: Flag,
     /// Modem relay was left, for the rest of this opening.
-    pub left: bool,
+    pub left: Flag,
     pub local: Mode,
     pub remote: Mode,
     pub recovery: Recovery,
@@ -126,9 +127,9 @@ impl Modes {
     /// The modes of a line just opened.
     pub fn opened(vbd: bool, relay: bool, time: u64) -> Modes {
         Modes {
-            vbd,
-            relay,
-            left: false,
+            vbd: vbd.into(),
+            relay: relay.into(),
+            left: false.into(),
             local: Mode::Audio,
             remote: Mode::Audio,
             recovery: Recovery::None,
@@ -146,8 +147,8 @@ impl Modes {
     fn offers(&self, mode: Mode) -> bool {
         match mode {
             Mode::Audio => true,
-            Mode::Vbd => self.vbd,
-            Mode::Relay => self.relay,
+            Mode::Vbd => self.vbd.is_set(),
+            Mode::Relay => self.relay.is_set(),
             _ => false,
         }
     }
@@ -155,7 +156,9 @@ impl Modes {
     /// Sets both modes, and times their difference from the event that begins it to the one that ends it.
     fn settle(&mut self, local: Mode, remote: Mode, time: u64) {
         let differed = self.differ();
-        self.left |= self.local == Mode::Relay && local != Mode::Relay;
+        if self.local == Mode::Relay && local != Mode::Relay {
+            self.left = true.into();
+        }
         self.local = local;
         self.remote = remote;
         match (differed, self.differ()) {
@@ -170,7 +173,7 @@ impl Modes {
         require(time >= self.last, Refusal::Clock)?;
         require(self.recovery == Recovery::None, Refusal::Recovery)?;
         require(self.offers(mode), Refusal::Range)?;
-        require(!(mode == Mode::Relay && self.left), Refusal::Mode)?;
+        require(!(mode == Mode::Relay && self.left.is_set()), Refusal::Mode)?;
         self.last = time;
         self.settle(mode, self.remote, time);
         Ok(self.local)
@@ -198,8 +201,8 @@ impl Modes {
         match mode {
             _ if self.recovery != Recovery::None => Mode::Audio,
             Mode::Audio => Mode::Audio,
-            Mode::Relay if self.relay && (in_relay || !self.left) => Mode::Relay,
-            _ if self.vbd => Mode::Vbd,
+            Mode::Relay if self.relay.is_set() && (in_relay || !self.left.is_set()) => Mode::Relay,
+            _ if self.vbd.is_set() => Mode::Vbd,
             _ => Mode::Audio,
         }
     }
@@ -233,7 +236,9 @@ impl Modes {
     /// BOOK's rules for the modes.
     pub fn is_sound(&self) -> bool {
         let recovering = self.recovery != Recovery::None;
-        self.offers(self.local)
+        let flags = [self.vbd, self.relay, self.left];
+        flags.iter().all(|flag| flag.is_sound())
+            && self.offers(self.local)
             && !matches!(self.remote, Mode::Other(_))
             && !matches!(self.recovery, Recovery::Other(_))
             && (!recovering || self.local == Mode::Audio)

@@ -3,6 +3,7 @@
 //! `None` means that the line is no call: an unknown part, or a value that cannot be said at all.
 
 use crate::channel::{Channel, Messages, MODULUS};
+use crate::flag::Flag;
 use crate::gateway::{Gateway, LINES};
 use crate::line::Line;
 use crate::modes::Recovery;
@@ -47,10 +48,10 @@ fn last<'a, T>(
 fn spoil_line(line: &mut Line, words: &mut Words) -> Option<()> {
     let modes = &mut line.modes;
     match words.word()? {
-        b"opened" => line.opened = last(words, Words::flag)?,
-        b"vbd" => modes.vbd = last(words, Words::flag)?,
-        b"relay" => modes.relay = last(words, Words::flag)?,
-        b"left" => modes.left = last(words, Words::flag)?,
+        b"opened" => line.opened = Flag(last(words, Words::octet)?),
+        b"vbd" => modes.vbd = Flag(last(words, Words::octet)?),
+        b"relay" => modes.relay = Flag(last(words, Words::octet)?),
+        b"left" => modes.left = Flag(last(words, Words::octet)?),
         b"id" => line.identifier = last(words, Words::octet)?,
         b"type" => line.payload_type = last(words, Words::octet)?,
         b"local" => modes.local = last(words, Words::mode_or_code)?,

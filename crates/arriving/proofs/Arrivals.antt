@@ -24,6 +24,7 @@ use Rattle.packet.specs.Acks.{ackList, acksServed}
 use Rattle.packet.specs.Read.{channelAt, headerLength, numberAt, headAt, acksAt, payloadOf, sizeFits, payloadFits, headTests, listTests, headRead, acksRead}
 use Rattle.packet.specs.declared.Head.{Head}
 use Rattle.mode.specs.Given.{modem}
+use Rattle.line.specs.Line.{isOpen}
 use Rattle.line.specs.Fit.{largest, lineFits}
 use Rattle.line.specs.declared.Line.{Line}
 use Rattle.relay.specs.RelayTests.{reliable}
@@ -114,7 +115,7 @@ module _ (l : Line) (s : List ℕ) (pass : verdict (arriveTests l s) ≡ Pass) w
   tests : Holds (arriveTests l s)
   tests = passed (arriveTests l s) pass
 
-  pub arrive-relaying : lineFits l ≡ true → l .opened ≡ true → Relaying l
+  pub arrive-relaying : lineFits l ≡ true → isOpen l ≡ true → Relaying l
   unfolding arriveTests
   arrive-relaying f o = record { fits = f; opened = o; inside = eqb-true _ _ (tests .1 .0) }
 

@@ -27,7 +27,7 @@ use Rattle.receiving.specs.declared.Arrival.the-variants.{Stored, There, Old}
 use Rattle.flow.proofs.Keeps.{arrived-keeps}
 use Rattle.owed.proofs.Steps.{enter-keeps, word-span}
 use Rattle.mode.specs.declared.Modes.{Modes}
-use Rattle.line.specs.Line.{sendingOf, receivingOf, withReceiving}
+use Rattle.line.specs.Line.{isOpen, sendingOf, receivingOf, withReceiving}
 use Rattle.line.specs.Fit.{largest, lineFits}
 use Rattle.line.specs.Shape.{Shaped}
 use Rattle.line.specs.declared.Line.{Line}
@@ -99,6 +99,7 @@ module _ (l : Line) (k : Relaying l) (h : Shaped l) (channel number : ℕ) (c : 
       let o : LineOk l = ok l k in
       let p = channel-span channel c in
       record {
+        flag = o .flag;
         settings = o .settings;
         modes = o .modes;
         sending1 = o .sending1;
@@ -124,7 +125,7 @@ module _ (l : Line) (k : Relaying l) (h : Shaped l) (channel number : ℕ) (c : 
       }
 
 -- so does the whole of an arrival
-module _ (l : Line) (s : List ℕ) (fits : lineFits l ≡ true) (opened : l .opened ≡ true) (h : Shaped l) (pass : verdict (arriveTests l s) ≡ Pass) where
+module _ (l : Line) (s : List ℕ) (fits : lineFits l ≡ true) (opened : isOpen l ≡ true) (h : Shaped l) (pass : verdict (arriveTests l s) ≡ Pass) where
   relaying : Relaying l
   relaying = arrive-relaying l s pass fits opened
 

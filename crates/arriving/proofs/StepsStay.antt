@@ -14,13 +14,13 @@ use Rattle.sending.specs.Sending.{heardBase, ackedBy}
 use Rattle.receiving.specs.Receiving.{arrivedAs}
 use Rattle.sending.specs.declared.Sending.{Sending}
 use Rattle.receiving.specs.declared.Receiving.{Receiving}
-use Rattle.line.specs.Line.{sendingOf, receivingOf, withSides, withSending}
+use Rattle.line.specs.Line.{isOpen, sendingOf, receivingOf, withSides, withSending}
 use Rattle.line.specs.declared.Line.{Line}
 use Rattle.relay.specs.RelayTests.{reliable}
 use Rattle.arriving.specs.Effect.{heardLine, ackedLine, ackedAll, owingLine, arrivalAt, storedLine}
 
 pub record Stays (l m : Line) : Type 0 where
-  pub opened : m .opened ≡ l .opened
+  pub opened : isOpen m ≡ isOpen l
   pub identifier : m .identifier ≡ l .identifier
   pub kind : m .kind ≡ l .kind
   pub modes : m .modes ≡ l .modes

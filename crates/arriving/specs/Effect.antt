@@ -15,7 +15,7 @@ use Rattle.receiving.specs.declared.Arrival.{Arrival}
 use Rattle.receiving.specs.declared.Arrival.the-variants.{Stored, There, Old}
 use Rattle.mode.specs.Given.{modem}
 use Rattle.owed.specs.Owed.{entered}
-use Rattle.line.specs.Line.{sendingOf, withSending, receivingOf, withReceiving, withOwed}
+use Rattle.line.specs.Line.{isOpen, sendingOf, withSending, receivingOf, withReceiving, withOwed}
 use Rattle.line.specs.Fit.{lineFits}
 use Rattle.line.specs.declared.Line.{Line}
 use Rattle.store.specs.Store.{regionOf, slotAt}
@@ -26,7 +26,7 @@ use Rattle.relay.specs.RelayTests.{reliable}
 -- what each step asks of the line, and leaves so: it is open and in modem relay, and BOOK lets it pass
 pub record Relaying (l : Line) : Type 0 where
   pub fits : lineFits l ≡ true
-  pub opened : l .opened ≡ true
+  pub opened : isOpen l ≡ true
   pub inside : l .modes .local ≡ modem
 
 -- "Base b against the last base heard h" (RULES 4.3), on a channel that is reliable; channel 0 has none (RULES 2.5)

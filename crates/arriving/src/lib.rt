@@ -9,6 +9,7 @@ ghost use Rattle.ground.specs.Refusal.{verdict};
 ghost use Rattle.ground.specs.declared.Verdict.the-variants.{Pass};
 ghost use Rattle.packet.specs.Read.{headAt, headTests};
 ghost use Rattle.line.specs.Fit.{lineFits};
+ghost use Rattle.line.specs.Line.{isOpen};
 ghost use Rattle.arriving.specs.Arrive.{arriveTests, arrivedLine, arrivedStore};
 use ground::Refusal;
 use ground::Verdict;
@@ -51,7 +52,7 @@ pub fn may_arrive(l: Line, s: &[u8]) -> Verdict
 
 // The packet takes effect: base, acknowledgements as listed, payload. Its tests have passed, so that head and list are there to read.
 pub fn arrive(l: Line, i: u8, store: &mut [u8], s: &[u8]) -> Line
-    requires { ⌜ (lineFits l ≡ true) × (l .opened ≡ true) × (i < 4) × (42240 ≤ length (now store)) × (verdict (arriveTests l (now s)) ≡ Pass) × (verdict (headTests (now s)) ≡ Pass) ⌝ }
+    requires { ⌜ (lineFits l ≡ true) × (isOpen l ≡ true) × (i < 4) × (42240 ≤ length (now store)) × (verdict (arriveTests l (now s)) ≡ Pass) × (verdict (headTests (now s)) ≡ Pass) ⌝ }
     ensures { λ r. ⌜ (r ≡ arrivedLine l (now (s .entry))) × (now (store .exit) ≡ arrivedStore l i (now (s .entry)) (now (store .entry))) ⌝ }
 {
     let HeadReading::Says(head) = packet::read_head(s) else {

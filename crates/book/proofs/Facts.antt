@@ -15,7 +15,7 @@ use Rattle.book.specs.Resting.{allSpan}
 use Rattle.book.specs.Marks.{newIn, marked, none}
 use Rattle.book.proofs.Spans.{span-append}
 use Rattle.book.proofs.Once.{new-append, new-once}
-use Rattle.line.specs.Line.{closedLine}
+use Rattle.line.specs.Line.{isOpen, closedLine}
 use Rattle.line.specs.Fit.{lineFits}
 use Rattle.line.specs.declared.Line.{Line}
 use Rattle.line.proofs.Keeps.{line-ok, closed-fits}
@@ -47,10 +47,10 @@ lines-at (l ∷ ls) f zero d h = both-true (lineFits l) (linesFit ls) f .0
 lines-at (l ∷ ls) f (suc i) d h = lines-at ls (both-true (lineFits l) (linesFit ls) f .1) i d (omega arith)
 
 -- an open line's identifier is one of 0 to 127
-pub line-span : (l : Line) → lineFits l ≡ true → l .opened ≡ true → leb (l .identifier) 127 ≡ true
+pub line-span : (l : Line) → lineFits l ≡ true → isOpen l ≡ true → leb (l .identifier) 127 ≡ true
 line-span l f o = each (leb (l .identifier) 127 ∷ leb 96 (l .kind) ∷ leb (l .kind) 127 ∷ []) (line-ok l o f .settings) .0
 
-pub open-at : (ls : List Line) → linesFit ls ≡ true → (i : ℕ) (d : Line) → i < length ls → getD ls i d .opened ≡ true → getD ls i d .identifier < 128
+pub open-at : (ls : List Line) → linesFit ls ≡ true → (i : ℕ) (d : Line) → i < length ls → isOpen (getD ls i d) ≡ true → getD ls i d .identifier < 128
 open-at ls f i d h o =
     let e : getD ls i d .identifier ≤ 127 = leb-true _ _ (line-span (getD ls i d) (lines-at ls f i d h) o) in
     omega arith
@@ -61,7 +61,7 @@ open-span [] f = refl
 open-span (l ∷ ls) f =
     let b = both-true (lineFits l) (linesFit ls) f in
     let r = open-span ls (b .1) in
-    pick-by (λ (xs : List ℕ). allSpan xs ≡ true) (l .opened) (λ e. rw (line-span l (b .0) e, r)) (λ e. r)
+    pick-by (λ (xs : List ℕ). allSpan xs ≡ true) (isOpen l) (λ e. rw (line-span l (b .0) e, r)) (λ e. r)
 
 -- the open ones are marked, and each that rests finds no mark, exactly if none is there twice
 pub once-is : (b : Book) → linesFit (b .lines) ≡ true → allSpan (restingOf b) ≡ true

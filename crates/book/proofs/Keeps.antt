@@ -14,7 +14,7 @@ use Rattle.owed.proofs.Lists.{twice-last}
 use Rattle.book.specs.Resting.{allSpan, rests}
 use Rattle.book.proofs.RestingLists.{rests-most}
 use Rattle.book.proofs.Spans.{span-append, span-rest}
-use Rattle.line.specs.Line.{closedLine}
+use Rattle.line.specs.Line.{isOpen, closedLine}
 use Rattle.line.specs.Fit.{lineFits}
 use Rattle.line.specs.Shape.{Shaped}
 use Rattle.line.specs.declared.Line.{Line}
@@ -29,7 +29,7 @@ use Rattle.book.proofs.Facts.{book-ok, ok-book, line-span, line-fits}
 use Rattle.book.proofs.Closing.{closed-resting}
 
 -- a line anew, open or closed as it was and with its identifier
-pub with-line-keeps : (b : Book) → bookFits b ≡ true → (i : ℕ) (l : Line) → lineFits l ≡ true → l .opened ≡ lineOf b i .opened → l .identifier ≡ lineOf b i .identifier
+pub with-line-keeps : (b : Book) → bookFits b ≡ true → (i : ℕ) (l : Line) → lineFits l ≡ true → isOpen l ≡ isOpen (lineOf b i) → l .identifier ≡ lineOf b i .identifier
     → bookFits (withLine b i l) ≡ true
 with-line-keeps b f i l g o e =
     let k = book-ok b f in
@@ -41,8 +41,8 @@ with-line-keeps b f i l g o e =
     })
 
 -- a closed line opened, with an identifier that is not taken
-pub opened-keeps : (b : Book) → bookFits b ≡ true → BookShaped b → (i : ℕ) → i < 4 → lineOf b i .opened ≡ false
-    → (l : Line) → l .opened ≡ true → lineFits l ≡ true → taken b (l .identifier) ≡ false → bookFits (withLine b i l) ≡ true
+pub opened-keeps : (b : Book) → bookFits b ≡ true → BookShaped b → (i : ℕ) → i < 4 → isOpen (lineOf b i) ≡ false
+    → (l : Line) → isOpen l ≡ true → lineFits l ≡ true → taken b (l .identifier) ≡ false → bookFits (withLine b i l) ≡ true
 opened-keeps b f s i h c l o g t =
     let k = book-ok b f in
     ok-book (withLine b i l) (record {
@@ -53,7 +53,7 @@ opened-keeps b f s i h c l o g t =
     })
 
 -- an open line closed, its identifier at rest
-pub closed-keeps : (b : Book) → bookFits b ≡ true → BookShaped b → (i : ℕ) → i < 4 → lineOf b i .opened ≡ true → bookFits (closedAt b i) ≡ true
+pub closed-keeps : (b : Book) → bookFits b ≡ true → BookShaped b → (i : ℕ) → i < 4 → isOpen (lineOf b i) ≡ true → bookFits (closedAt b i) ≡ true
 unfolding closedAt allSpan
 closed-keeps b f s i h o =
     let k = book-ok b f in

@@ -14,10 +14,9 @@ use Rattle.ground.proofs.Picks.{both-true}
 use Rattle.ground.proofs.Either.{or-true}
 use Rattle.owed.specs.Owed.{member, noTwice}
 use Rattle.owed.proofs.Lists.{eqb-turn}
-use Rattle.line.specs.Line.{closedLine}
+use Rattle.line.specs.Line.{isOpen, closedLine}
 use Rattle.line.specs.Fit.{lineFits}
 use Rattle.line.specs.declared.Line.{Line}
-use Rattle.line.proofs.Keeps.{closed-fits}
 use Rattle.book.specs.Book.{openIn, linesFit, ownerFrom}
 use Rattle.book.specs.declared.Owner.{Owner}
 use Rattle.book.specs.declared.Owner.the-variants.{At}
@@ -40,38 +39,38 @@ lines-set (x ∷ ls) (suc i) l f g =
     rw (b .0) (lines-set ls i l (b .1) g)
 
 -- A line put anew that is open or closed as it was, with its identifier.
-pub open-same : (ls : List Line) (i : ℕ) (l : Line) → l .opened ≡ getD ls i closedLine .opened → l .identifier ≡ getD ls i closedLine .identifier → openIn (set ls i l) ≡ openIn ls
+pub open-same : (ls : List Line) (i : ℕ) (l : Line) → isOpen l ≡ isOpen (getD ls i closedLine) → l .identifier ≡ getD ls i closedLine .identifier → openIn (set ls i l) ≡ openIn ls
 unfolding openIn
 open-same [] i l o e = refl
 open-same (x ∷ ls) zero l o e = ap₂ (λ (t : Bool) (y : ℕ). pick t (y ∷ openIn ls) (openIn ls)) o e
-open-same (x ∷ ls) (suc i) l o e = ap (λ (xs : List ℕ). pick (x .opened) (x .identifier ∷ xs) xs) (open-same ls i l o e)
+open-same (x ∷ ls) (suc i) l o e = ap (λ (xs : List ℕ). pick (isOpen x) (x .identifier ∷ xs) xs) (open-same ls i l o e)
 
 -- A closed line put in a closed line's place.
-module _ (l : Line) (c : l .opened ≡ false) where
-  pub open-closed : (ls : List Line) (i : ℕ) → getD ls i closedLine .opened ≡ false → openIn (set ls i l) ≡ openIn ls
+module _ (l : Line) (c : isOpen l ≡ false) where
+  pub open-closed : (ls : List Line) (i : ℕ) → isOpen (getD ls i closedLine) ≡ false → openIn (set ls i l) ≡ openIn ls
   unfolding openIn
   open-closed [] i o = refl
   open-closed (x ∷ ls) zero o = rw (c, o)
-  open-closed (x ∷ ls) (suc i) o = ap (λ (xs : List ℕ). pick (x .opened) (x .identifier ∷ xs) xs) (open-closed ls i o)
+  open-closed (x ∷ ls) (suc i) o = ap (λ (xs : List ℕ). pick (isOpen x) (x .identifier ∷ xs) xs) (open-closed ls i o)
 
-  pub lines-closed : (ls : List Line) (i : ℕ) → getD ls i closedLine .opened ≡ false → linesFit (set ls i l) ≡ linesFit ls
-  unfolding linesFit
-  lines-closed [] i o = refl
-  lines-closed (x ∷ ls) zero o = rw (closed-fits l c, closed-fits x o)
-  lines-closed (x ∷ ls) (suc i) o = ap (λ (t : Bool). lineFits x && t) (lines-closed ls i o)
+  pub lines-closed : (ls : List Line) (i : ℕ) → isOpen (getD ls i closedLine) ≡ false → l .opened ≡ getD ls i closedLine .opened → linesFit (set ls i l) ≡ linesFit ls
+  unfolding linesFit lineFits
+  lines-closed [] i o e = refl
+  lines-closed (x ∷ ls) zero o e = rw (c, o) (ap (λ (n : ℕ). eqb n 0 && linesFit ls) e)
+  lines-closed (x ∷ ls) (suc i) o e = ap (λ (t : Bool). lineFits x && t) (lines-closed ls i o e)
 
-  pub whose-closed : (k : ℕ) (ls : List Line) (i x : ℕ) → getD ls i closedLine .opened ≡ false → ownerFrom k (set ls i l) x ≡ ownerFrom k ls x
+  pub whose-closed : (k : ℕ) (ls : List Line) (i x : ℕ) → isOpen (getD ls i closedLine) ≡ false → ownerFrom k (set ls i l) x ≡ ownerFrom k ls x
   unfolding ownerFrom
   whose-closed k [] i x o = refl
   whose-closed k (y ∷ ls) zero x o = rw (c, o)
-  whose-closed k (y ∷ ls) (suc i) x o = ap (λ (w : Owner). pick (y .opened && eqb (y .identifier) x) (At k) w) (whose-closed (suc k) ls i x o)
+  whose-closed k (y ∷ ls) (suc i) x o = ap (λ (w : Owner). pick (isOpen y && eqb (y .identifier) x) (At k) w) (whose-closed (suc k) ls i x o)
 
 -- An open line's identifier is among those that are open.
-pub open-member : (ls : List Line) (i : ℕ) → i < length ls → getD ls i closedLine .opened ≡ true → member (getD ls i closedLine .identifier) (openIn ls) ≡ true
+pub open-member : (ls : List Line) (i : ℕ) → i < length ls → isOpen (getD ls i closedLine) ≡ true → member (getD ls i closedLine .identifier) (openIn ls) ≡ true
 unfolding openIn member
 open-member [] i h o = absurd (omega arith)
 open-member (x ∷ ls) zero h o = rw (o, eq-eqb (x .identifier) (x .identifier) refl)
-open-member (x ∷ ls) (suc i) h o = go (x .opened) (open-member ls i (omega arith) o)
+open-member (x ∷ ls) (suc i) h o = go (isOpen x) (open-member ls i (omega arith) o)
   where
     y : ℕ
     y = getD ls i closedLine .identifier
@@ -84,7 +83,7 @@ open-member (x ∷ ls) (suc i) h o = go (x .opened) (open-member ls i (omega ari
 open-append : (a b : List Line) → openIn (a ++ b) ≡ openIn a ++ openIn b
 unfolding openIn
 open-append [] b = refl
-open-append (l ∷ a) b = go (l .opened) (open-append a b)
+open-append (l ∷ a) b = go (isOpen l) (open-append a b)
   where
     go : (t : Bool) → openIn (a ++ b) ≡ openIn a ++ openIn b
         → pick t (l .identifier ∷ openIn (a ++ b)) (openIn (a ++ b)) ≡ pick t (l .identifier ∷ openIn a) (openIn a) ++ openIn b
@@ -92,7 +91,7 @@ open-append (l ∷ a) b = go (l .opened) (open-append a b)
     go false e = e
 
 open-set : (ls : List Line) (i : ℕ) (l : Line) → i < length ls
-    → openIn (set ls i l) ≡ openIn (take i ls) ++ pick (l .opened) (l .identifier ∷ openIn (drop (suc i) ls)) (openIn (drop (suc i) ls))
+    → openIn (set ls i l) ≡ openIn (take i ls) ++ pick (isOpen l) (l .identifier ∷ openIn (drop (suc i) ls)) (openIn (drop (suc i) ls))
 unfolding openIn
 open-set ls i l h = ap openIn (set-split ls i l h) ∙ open-append (take i ls) (l ∷ drop (suc i) ls)
 
@@ -121,7 +120,7 @@ once-insert x (z ∷ a) c =
     turn false false r s = refl
 
 -- an open line among the lines, and those that rest: its identifier, and all others
-pub once-open : (ls : List Line) (r : List ℕ) (i : ℕ) (l : Line) → i < length ls → l .opened ≡ true
+pub once-open : (ls : List Line) (r : List ℕ) (i : ℕ) (l : Line) → i < length ls → isOpen l ≡ true
     → noTwice (openIn (set ls i l) ++ r) ≡ (not (member (l .identifier) (openIn (set ls i closedLine) ++ r)) && noTwice (openIn (set ls i closedLine) ++ r))
 once-open ls r i l h o =
     let a = openIn (take i ls) in

@@ -9,6 +9,7 @@ use native.Mathlib.Omega.{arith}
 use lib.Dec.{eqb}
 use lib.ListN.{length, getD, drop, drop-of-length-le, length-map}
 use Rattle.book.proofs.RestingTurns.{left}
+use Rattle.line.specs.Line.{isOpen}
 use Rattle.line.specs.Fit.{lineFits}
 use Rattle.line.specs.declared.Line.{Line}
 use Rattle.book.specs.Book.{openIn, linesFit, ownerFrom}
@@ -26,11 +27,11 @@ getD-any (x ∷ l) (suc i) d e h = getD-any l i d e (omega arith)
 
 module _ (ls : List Line) (i : ℕ) (d : Line) (h : i < length ls) where
   -- the line has the identifier, or another has
-  pub whose-here : (x : ℕ) → (getD ls i d .opened && eqb (getD ls i d .identifier) x) ≡ true → ownerFrom i (drop i ls) x ≡ At i
+  pub whose-here : (x : ℕ) → (isOpen (getD ls i d) && eqb (getD ls i d .identifier) x) ≡ true → ownerFrom i (drop i ls) x ≡ At i
   unfolding ownerFrom
   whose-here x e = rw (left ls i d h, e)
 
-  pub whose-on : (x : ℕ) → (getD ls i d .opened && eqb (getD ls i d .identifier) x) ≡ false → ownerFrom (i + 1) (drop (i + 1) ls) x ≡ ownerFrom i (drop i ls) x
+  pub whose-on : (x : ℕ) → (isOpen (getD ls i d) && eqb (getD ls i d .identifier) x) ≡ false → ownerFrom (i + 1) (drop (i + 1) ls) x ≡ ownerFrom i (drop i ls) x
   unfolding ownerFrom
   whose-on x e = sym (rw (left ls i d h, e, ← add-one i))
 
@@ -44,11 +45,11 @@ module _ (ls : List Line) (i : ℕ) (d : Line) (h : i < length ls) where
   lines-lost e = rw (left ls i d h, e)
 
   -- the line is open, or it is closed
-  pub open-here : getD ls i d .opened ≡ true → openIn (drop i ls) ≡ getD ls i d .identifier ∷ openIn (drop (i + 1) ls)
+  pub open-here : isOpen (getD ls i d) ≡ true → openIn (drop i ls) ≡ getD ls i d .identifier ∷ openIn (drop (i + 1) ls)
   unfolding openIn
   open-here e = rw (left ls i d h, e)
 
-  pub open-on : getD ls i d .opened ≡ false → openIn (drop i ls) ≡ openIn (drop (i + 1) ls)
+  pub open-on : isOpen (getD ls i d) ≡ false → openIn (drop i ls) ≡ openIn (drop (i + 1) ls)
   unfolding openIn
   open-on e = rw (left ls i d h, e)
 

@@ -8,7 +8,7 @@ use lib.ListN.{getD, set, take, replicate}
 use Rattle.ground.specs.Pick.{pick, allHold}
 use Rattle.owed.specs.Owed.{member, noTwice}
 use Rattle.book.specs.Resting.{allSpan}
-use Rattle.line.specs.Line.{closedLine}
+use Rattle.line.specs.Line.{isOpen, closedLine}
 use Rattle.line.specs.Fit.{lineFits}
 use Rattle.line.specs.declared.Line.{Line}
 use Rattle.book.specs.declared.Book.{Book}
@@ -30,7 +30,7 @@ withLine b i l = record { lines = set (b .lines) i l; resting = b .resting; rest
 -- the identifiers of the open lines
 unfoldable pub openIn : List Line → List ℕ
 openIn [] = []
-openIn (l ∷ ls) = pick (l .opened) (l .identifier ∷ openIn ls) (openIn ls)
+openIn (l ∷ ls) = pick (isOpen l) (l .identifier ∷ openIn ls) (openIn ls)
 
 -- those that rest, oldest first (RULES 7.6); what stands after them in the array is not read (RULES 15.26)
 abbrev pub restingOf : Book → List ℕ
@@ -52,7 +52,7 @@ bookFits b = allHold (linesFit (b .lines) ∷ leb (b .rested) 16 ∷ allSpan (re
 -- the open line that has the identifier (RULES 4.1): the first from the front, where k lines stand before these
 unfoldable pub ownerFrom : ℕ → List Line → ℕ → Owner
 ownerFrom k [] identifier = Nobody
-ownerFrom k (l ∷ ls) identifier = pick (l .opened && eqb (l .identifier) identifier) (At k) (ownerFrom (suc k) ls identifier)
+ownerFrom k (l ∷ ls) identifier = pick (isOpen l && eqb (l .identifier) identifier) (At k) (ownerFrom (suc k) ls identifier)
 
 abbrev pub ownerOf : Book → ℕ → Owner
 ownerOf b identifier = ownerFrom 0 (b .lines) identifier

@@ -11,6 +11,7 @@ use line::Line;
 
 mod resting; // resting.rt: the identifiers that rest
 
+#[repr(C)]
 pub struct Book {
     pub lines: [Line; 4],
     // The identifiers that rest, oldest first; what stands after them is not read.
@@ -79,7 +80,7 @@ impl Book {
     {
         let mut i = 0;
         while i < 4 {
-            if self.lines[i].opened & (self.lines[i].identifier == identifier) {
+            if (self.lines[i].opened == Line::OPEN) & (self.lines[i].identifier == identifier) {
                 return Owner::At(i as u8);
             }
             i += 1;
@@ -139,7 +140,7 @@ impl Book {
         let mut once = true;
         let mut i = 0;
         while i < 4 {
-            if self.lines[i].opened {
+            if self.lines[i].opened == Line::OPEN {
                 let identifier = self.lines[i].identifier as usize;
                 once = once & (marks[identifier] == 0);
                 marks[identifier] = 1;

@@ -15,7 +15,7 @@ use Rattle.line.specs.Fit.{lineFits}
 use Rattle.book.specs.Book.{lineOf, bookFits}
 use Rattle.book.specs.declared.Book.{Book}
 use Rattle.book.proofs.Facts.{book-ok, line-fits}
-use Rattle.calls.specs.Parts.{fitBook, roomy, lineNumber, isOpen}
+use Rattle.calls.specs.Parts.{fitBook, roomy, lineNumber, mustBeOpen}
 
 pub record OnLine (b : Book) (i : ℕ) : Type 0 where
   pub book : bookFits b ≡ true
@@ -59,5 +59,5 @@ module _ {b : Book} {i : ℕ} {ts whole : List Test} {v : Verdict} where
   asked-both n parts e p = both-passed b n i ts (sym (ap verdict parts) ∙ sym e ∙ p)
 
 -- and of what a mode call asks before its own tests
-pub asked-open : (b : Book) (i : ℕ) {v : Verdict} → v ≡ verdict (fitBook b ∷ lineNumber i ∷ isOpen (lineOf b i) ∷ []) → v ≡ Pass → OnLine b i
-asked-open b i e p = line-passed b i (isOpen (lineOf b i) ∷ []) (sym e ∙ p) .0
+pub asked-open : (b : Book) (i : ℕ) {v : Verdict} → v ≡ verdict (fitBook b ∷ lineNumber i ∷ mustBeOpen (lineOf b i) ∷ []) → v ≡ Pass → OnLine b i
+asked-open b i e p = line-passed b i (mustBeOpen (lineOf b i) ∷ []) (sym e ∙ p) .0

@@ -21,7 +21,7 @@ use Rattle.book.specs.declared.Book.{Book}
 use Rattle.calls.specs.Call.{Call}
 use Rattle.calls.specs.Call as call
 use Rattle.calls.specs.Order.{order, lineFor}
-use Rattle.calls.specs.Parts.{tests, fitBook, lineNumber, isOpen, modeTests}
+use Rattle.calls.specs.Parts.{tests, fitBook, lineNumber, mustBeOpen, modeTests}
 use Rattle.calls.proofs.OrderParts.{order-parts}
 use Rattle.calls.proofs.Stops.{stops, goes-on}
 use Rattle.calls.specs.Result.{CallResult, resultWith, resultOf, acceptedResult, effect}
@@ -50,7 +50,7 @@ module _ (b : Book) (i : ℕ) (a : Act) where
   m = lineOf b i .modes
 
   abbrev earlier : List Test
-  earlier = fitBook b ∷ lineNumber i ∷ isOpen (lineOf b i) ∷ []
+  earlier = fitBook b ∷ lineNumber i ∷ mustBeOpen (lineOf b i) ∷ []
 
   mode-parts : (n space : ℕ) → order (call.mode i a) b n space ≡ earlier ++ actTests m a
   unfolding tests modeTests

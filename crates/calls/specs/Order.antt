@@ -15,10 +15,10 @@ use Rattle.channel.specs.Sizes.{sizeFits}
 use Rattle.sending.specs.Sending.{underWay}
 use Rattle.receiving.specs.Receiving.{nextSize}
 use Rattle.mode.specs.Acts as act
-use Rattle.mode.specs.Given.{audio, modem, text, offered}
+use Rattle.mode.specs.Given.{audio, modem, text, hasLeft, offered}
 use Rattle.mode.specs.Moved.{ended}
 use Rattle.line.specs.Fit.{largest, settingsFit}
-use Rattle.line.specs.Line.{sendingOf, receivingOf}
+use Rattle.line.specs.Line.{isOpen, sendingOf, receivingOf}
 use Rattle.line.specs.declared.Settings.{Settings}
 use Rattle.relay.specs.RelayTests.{inRelay, reliable}
 use Rattle.writing.specs.Write.{headerLengthFor}
@@ -37,7 +37,7 @@ unfoldable pub openOrder : Book → ℕ → Settings → List Test
 openOrder b i s =
     must (bookFits b) BOOK
     ∷ must (leb i 3) RANGE
-    ∷ must (not (lineOf b i .opened)) TAKEN
+    ∷ must (not (isOpen (lineOf b i))) TAKEN
     ∷ must (settingsFit (s .identifier) (s .kind)) RANGE
     ∷ must (not (taken b (s .identifier))) TAKEN
     ∷ []
@@ -47,7 +47,7 @@ unfoldable pub closeOrder : Book → ℕ → ℕ → List Test
 closeOrder b i space =
     must (bookFits b) BOOK
     ∷ must (leb i 3) RANGE
-    ∷ must (lineOf b i .opened) NOLINE
+    ∷ must (isOpen (lineOf b i)) NOLINE
     ∷ must (leb 12 space) ROOM
     ∷ []
 
@@ -57,7 +57,7 @@ hearOrder b i mode time =
     let m = lineOf b i .modes in
     must (bookFits b) BOOK
     ∷ must (leb i 3) RANGE
-    ∷ must (lineOf b i .opened) NOLINE
+    ∷ must (isOpen (lineOf b i)) NOLINE
     ∷ must (leb (m .last) time) CLOCK
     ∷ must (not (ended m)) RECOVERY
     ∷ must (leb audio mode && leb mode text) RANGE
@@ -69,11 +69,11 @@ askOrder b i mode time =
     let m = lineOf b i .modes in
     must (bookFits b) BOOK
     ∷ must (leb i 3) RANGE
-    ∷ must (lineOf b i .opened) NOLINE
+    ∷ must (isOpen (lineOf b i)) NOLINE
     ∷ must (leb (m .last) time) CLOCK
     ∷ must (eqb (m .tries) 0) RECOVERY
     ∷ must (offered m mode) RANGE
-    ∷ must (not (eqb mode modem && m .left)) MODE
+    ∷ must (not (eqb mode modem && hasLeft m)) MODE
     ∷ []
 
 -- "A tick on an ended line says ended again": of the mode calls' refusals a tick has NOLINE and CLOCK (RULES 14.12)
@@ -81,7 +81,7 @@ unfoldable pub tickOrder : Book → ℕ → ℕ → List Test
 tickOrder b i time =
     must (bookFits b) BOOK
     ∷ must (leb i 3) RANGE
-    ∷ must (lineOf b i .opened) NOLINE
+    ∷ must (isOpen (lineOf b i)) NOLINE
     ∷ must (leb (lineOf b i .modes .last) time) CLOCK
     ∷ []
 
@@ -93,7 +93,7 @@ takeOrder b store i channel n =
     must (bookFits b) BOOK
     ∷ must (leb 42240 store) ROOM
     ∷ must (leb i 3) RANGE
-    ∷ must (l .opened) NOLINE
+    ∷ must (isOpen l) NOLINE
     ∷ must (inRelay l) MODE
     ∷ must (reliable channel) CHANNEL
     ∷ must (sizeFits largest n) SIZE
@@ -108,7 +108,7 @@ sendOrder b store i channel rank space =
     must (bookFits b) BOOK
     ∷ must (leb 42240 store) ROOM
     ∷ must (leb i 3) RANGE
-    ∷ must (l .opened) NOLINE
+    ∷ must (isOpen l) NOLINE
     ∷ must (inRelay l) MODE
     ∷ must (reliable channel) CHANNEL
     ∷ must (isHeld (ranked l channel rank)) NOTHING
@@ -123,7 +123,7 @@ handOutOrder b store i channel space =
     must (bookFits b) BOOK
     ∷ must (leb 42240 store) ROOM
     ∷ must (leb i 3) RANGE
-    ∷ must (l .opened) NOLINE
+    ∷ must (isOpen l) NOLINE
     ∷ must (inRelay l) MODE
     ∷ must (reliable channel) CHANNEL
     ∷ must (ltb (r .next) cap) SPENT
@@ -137,7 +137,7 @@ emptyOrder b i channel space =
     let l = lineOf b i in
     must (bookFits b) BOOK
     ∷ must (leb i 3) RANGE
-    ∷ must (l .opened) NOLINE
+    ∷ must (isOpen l) NOLINE
     ∷ must (inRelay l) MODE
     ∷ must (leb channel 2) CHANNEL
     ∷ must (leb (headerLengthFor l) space) ROOM
@@ -149,7 +149,7 @@ reportOrder b i channel =
     let l = lineOf b i in
     must (bookFits b) BOOK
     ∷ must (leb i 3) RANGE
-    ∷ must (l .opened) NOLINE
+    ∷ must (isOpen l) NOLINE
     ∷ must (inRelay l) MODE
     ∷ must (reliable channel) CHANNEL
     ∷ []

@@ -10,6 +10,7 @@ use Rattle.ground.specs.Refusal.{Test, must}
 use Rattle.ground.specs.declared.Refusal.the-variants.{NOLINE, ROOM, TAKEN, RANGE, BOOK}
 use Rattle.packet.specs.Read.{headTests}
 use Rattle.mode.specs.Acts.{Act, actTests}
+use Rattle.line.specs.Line.{isOpen}
 use Rattle.line.specs.Fit.{settingsFit}
 use Rattle.line.specs.declared.Line.{Line}
 use Rattle.line.specs.declared.Settings.{Settings}
@@ -35,20 +36,20 @@ roomy store = must (leb 42240 store) ROOM
 abbrev pub lineNumber : ℕ → Test
 lineNumber i = must (leb i 3) RANGE
 
-abbrev pub isOpen : Line → Test
-isOpen l = must (l .opened) NOLINE
+abbrev pub mustBeOpen : Line → Test
+mustBeOpen l = must (isOpen l) NOLINE
 
 -- opening, after them
 unfoldable pub openTests : Book → ℕ → Settings → List Test
-openTests b i s = must (not (lineOf b i .opened)) TAKEN ∷ must (settingsFit (s .identifier) (s .kind)) RANGE ∷ must (not (taken b (s .identifier))) TAKEN ∷ []
+openTests b i s = must (not (isOpen (lineOf b i))) TAKEN ∷ must (settingsFit (s .identifier) (s .kind)) RANGE ∷ must (not (taken b (s .identifier))) TAKEN ∷ []
 
 -- closing
 unfoldable pub closeTests : Line → ℕ → List Test
-closeTests l space = isOpen l ∷ must (leb 12 space) ROOM ∷ []
+closeTests l space = mustBeOpen l ∷ must (leb 12 space) ROOM ∷ []
 
 -- the mode calls
 unfoldable pub modeTests : Line → Act → List Test
-modeTests l a = isOpen l ∷ actTests (l .modes) a
+modeTests l a = mustBeOpen l ∷ actTests (l .modes) a
 
 -- an arrival: the packet's address, and then the line that it is for
 unfoldable pub addressTests : Book → List ℕ → List Test

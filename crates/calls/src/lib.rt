@@ -8,11 +8,12 @@ ghost use mathlib.Core.List.{[], _∷_};
 ghost use Rattle.ground.specs.Refusal.{verdict};
 ghost use Rattle.book.specs.Book.{lineOf};
 ghost use Rattle.calls.specs.Order.{openOrder, closeOrder};
-ghost use Rattle.calls.specs.Parts.{fitBook, roomy, lineNumber, isOpen, openTests};
+ghost use Rattle.calls.specs.Parts.{fitBook, roomy, lineNumber, mustBeOpen, openTests};
 use book::Book;
 use ground::Refusal;
 use ground::Verdict;
 use ground::WriteAnswer;
+use line::Line;
 use line::Settings;
 use store::Region;
 
@@ -72,7 +73,7 @@ fn may_open_line(book: Book, line: u8, settings: Settings) -> Verdict
     requires { ⌜ (line < 4) × (book .rested ≤ 16) ⌝ }
     ensures { λ r. ⌜ r ≡ verdict (openTests book line settings) ⌝ }
 {
-    if book.line(line).opened {
+    if book.line(line).opened == Line::OPEN {
         return Verdict::Refuse(Refusal::TAKEN);
     }
     if !line::settings_fit(settings.identifier, settings.kind) {
@@ -115,13 +116,13 @@ pub fn may_close(book: Book, line: u8, space: usize) -> Verdict
 
 // What closing and the mode calls ask before their own tests: BOOK, RANGE for the line, NOLINE.
 pub fn open_line_verdict(book: Book, line: u8) -> Verdict
-    ensures { λ r. ⌜ r ≡ verdict (fitBook book ∷ lineNumber line ∷ isOpen (lineOf book line) ∷ []) ⌝ }
+    ensures { λ r. ⌜ r ≡ verdict (fitBook book ∷ lineNumber line ∷ mustBeOpen (lineOf book line) ∷ []) ⌝ }
 {
     let earlier = line_verdict(book, line);
     match earlier {
         Verdict::Refuse(r) => Verdict::Refuse(r),
         Verdict::Pass => {
-            if book.line(line).opened {
+            if book.line(line).opened == Line::OPEN {
                 Verdict::Pass
             } else {
                 Verdict::Refuse(Refusal::NOLINE)

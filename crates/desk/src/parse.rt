@@ -45,7 +45,7 @@ fn part_at(s: &[u8], at: usize, octets: &mut [u8]) -> Arguments {
     words::call(
         s,
         at,
-        b"rested b resting jb opened f id b type b owing b owed ien vbd f relay f left f local k remote k try b since q tried q last q taken cd base cd dropped cd held cdo next cd missing cd stored cdo",
+        b"rested b resting jb opened b id b type b owing b owed ien vbd b relay b left b local k remote k try b since q tried q last q taken cd base cd dropped cd held cdo next cd missing cd stored cdo",
         octets,
     )
 }

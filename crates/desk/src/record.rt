@@ -9,9 +9,9 @@ fn with_mode(modes: Modes, a: Arguments) -> Modes {
     let mut next = modes;
     let call = a.call;
     match call {
-        7 => next.vbd = a.flag(0),
-        8 => next.relay = a.flag(0),
-        9 => next.left = a.flag(0),
+        7 => next.vbd = a.octet(0),
+        8 => next.relay = a.octet(0),
+        9 => next.left = a.octet(0),
         10 => next.local = a.octet(0),
         11 => next.remote = a.octet(0),
         12 => next.tries = a.octet(0),
@@ -48,7 +48,7 @@ pub fn set(l: Line, a: Arguments) -> Line {
     let mut next = l;
     let call = a.call;
     match call {
-        2 => next.opened = a.flag(0),
+        2 => next.opened = a.octet(0),
         3 => next.identifier = a.octet(0),
         4 => next.kind = a.octet(0),
         5 | 6 => next.owed = with_owed(l.owed, a),

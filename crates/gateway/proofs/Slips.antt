@@ -18,6 +18,7 @@ use Rattle.receiving.specs.declared.Receiving.{Receiving}
 use Rattle.flow.proofs.Keeps.{receiving-ok}
 use Rattle.places.specs.Places.{widest}
 use Rattle.mode.specs.Moved.{ended}
+use Rattle.line.specs.Line.{isOpen}
 use Rattle.line.specs.Fit.{largest, lineFits}
 use Rattle.line.specs.declared.Line.{Line}
 use Rattle.line.proofs.Keeps.{line-ok}
@@ -34,7 +35,7 @@ flag : (t : Bool) → leb (bit t) 1 ≡ true
 flag true = refl
 flag false = refl
 
-pub slip-fits : (l : Line) → l .opened ≡ true → lineFits l ≡ true → slipFits (slipOf l) ≡ true
+pub slip-fits : (l : Line) → isOpen l ≡ true → lineFits l ≡ true → slipFits (slipOf l) ≡ true
 unfolding slipFits slipOf
 slip-fits l o f =
     let k = line-ok l o f in

@@ -17,7 +17,7 @@ use Rattle.ground.proofs.Settled.{verdict-of-answer}
 use Rattle.packet.specs.Read.{headAt, headTests}
 use Rattle.receiving.specs.Receiving.{nextSize}
 use Rattle.line.specs.Fit.{lineFits}
-use Rattle.line.specs.Line.{receivingOf}
+use Rattle.line.specs.Line.{isOpen, receivingOf}
 use Rattle.line.specs.declared.Line.{Line}
 use Rattle.store.specs.Store.{regionOf, slotAt}
 use Rattle.store.specs.declared.Way.the-variants.{Receiving}
@@ -51,7 +51,7 @@ pub record Addressed (b : Book) (n : ℕ) (s : List ℕ) (i : ℕ) : Type 0 wher
   pub store : 42240 ≤ n
   pub owner : packetLine b s ≡ At i
   pub number : i < length (b .lines)
-  pub opened : lineOf b i .opened ≡ true
+  pub opened : isOpen (lineOf b i) ≡ true
   pub fits : lineFits (lineOf b i) ≡ true
   pub head : verdict (headTests s) ≡ Pass
   pub line : verdict (arriveTests (lineOf b i) s) ≡ Pass

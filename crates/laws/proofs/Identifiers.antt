@@ -4,6 +4,7 @@ use Prim.Native.Nat.{ℕ, _<_}
 use mathlib.Core.Path.{_≡_}
 use mathlib.Core.Bool.{true, false, not}
 use mathlib.Core.List.{List, [], _∷_, _++_}
+use Rattle.line.specs.Line.{isOpen}
 use Rattle.ground.proofs.Picks.{both-true}
 use Rattle.owed.specs.Owed.{member, noTwice}
 use Rattle.book.specs.Book.{freshBook, lineOf, openIn, restingOf, bookFits}
@@ -18,8 +19,8 @@ use Rattle.laws.proofs.Keeps.{Passes, every-call-keeps}
 
 -- "one identifier twice among open and resting": on two open lines, on an open line and at rest, or at rest twice
 pub record NoneTwice (b : Book) : Type 0 where
-  pub lines : (i j : ℕ) → i < 4 → j < 4 → lineOf b i .opened ≡ true → lineOf b j .opened ≡ true → lineOf b i .identifier ≡ lineOf b j .identifier → i ≡ j
-  pub rests : (i : ℕ) → i < 4 → lineOf b i .opened ≡ true → member (lineOf b i .identifier) (restingOf b) ≡ false
+  pub lines : (i j : ℕ) → i < 4 → j < 4 → isOpen (lineOf b i) ≡ true → isOpen (lineOf b j) ≡ true → lineOf b i .identifier ≡ lineOf b j .identifier → i ≡ j
+  pub rests : (i : ℕ) → i < 4 → isOpen (lineOf b i) ≡ true → member (lineOf b i .identifier) (restingOf b) ≡ false
   pub resting : noTwice (restingOf b) ≡ true
 
 -- of a list where none is twice none is in its second part

@@ -21,7 +21,7 @@ use Rattle.mode.specs.declared.Modes.{Modes}
 use Rattle.mode.proofs.Fits.{call-keeps}
 use Rattle.mode.proofs.Emptying.{by-local}
 use Rattle.line.specs.Fit.{lineFits}
-use Rattle.line.specs.Line.{openedLine, sendingOf}
+use Rattle.line.specs.Line.{isOpen, openedLine, sendingOf}
 use Rattle.line.specs.Mode.{steppedTo}
 use Rattle.line.specs.Shape.{Shaped}
 use Rattle.line.specs.declared.Line.{Line}
@@ -58,14 +58,14 @@ abbrev pub Passes : Book → Type 0
 Passes b = (bookFits b ≡ true) × BookShaped b
 
 -- a change of mode leaves whether the line is open, and its identifier
-stepped-same : (l : Line) (m : Modes) (c : Channels) → (steppedTo l m c .opened ≡ l .opened) × (steppedTo l m c .identifier ≡ l .identifier)
+stepped-same : (l : Line) (m : Modes) (c : Channels) → (isOpen (steppedTo l m c) ≡ isOpen l) × (steppedTo l m c .identifier ≡ l .identifier)
 unfolding steppedTo
 stepped-same l m Stay = (refl, refl)
 stepped-same l m Fresh = (refl, refl)
 stepped-same l m Emptied = (refl, refl)
 
 -- a change of mode keeps an open line that BOOK lets pass
-moved-keeps : (l : Line) (a : Act) → l .opened ≡ true → lineFits l ≡ true → Shaped l
+moved-keeps : (l : Line) (a : Act) → isOpen l ≡ true → lineFits l ≡ true → Shaped l
     → let o = outcome (l .modes) a in (lineFits (steppedTo l (o .modes) (o .channels)) ≡ true) × Shaped (steppedTo l (o .modes) (o .channels))
 moved-keeps l a opened fits shaped =
     let k = line-ok l opened fits in
@@ -90,7 +90,7 @@ empty-keeps l channel space fits shaped e =
 
 module _ (b : Book) (fits : bookFits b ≡ true) (shaped : BookShaped b) where
   -- a line put back that is open as it was, with its identifier, and that BOOK lets pass
-  put-keeps : (i : ℕ) (l : Line) → l .opened ≡ lineOf b i .opened → l .identifier ≡ lineOf b i .identifier → (lineFits l ≡ true) × Shaped l → Passes (withLine b i l)
+  put-keeps : (i : ℕ) (l : Line) → isOpen l ≡ isOpen (lineOf b i) → l .identifier ≡ lineOf b i .identifier → (lineFits l ≡ true) × Shaped l → Passes (withLine b i l)
   put-keeps i l o e k = (with-line-keeps b fits i l (k .0) o e, with-line-shaped b shaped i l (k .1))
 
   -- what an accepted call leaves, call by call

@@ -6,6 +6,7 @@ use mathlib.Core.Bool.{Bool, true, false}
 use mathlib.Core.List.{List}
 use native.Mathlib.Omega.{arith}
 use lib.ListN.{length}
+use Rattle.line.specs.Line.{isOpen}
 use Rattle.ground.specs.Refusal.{verdict, settle}
 use Rattle.ground.specs.declared.Verdict.{Verdict}
 use Rattle.ground.specs.declared.Verdict.the-variants.{Pass}
@@ -33,7 +34,7 @@ use Rattle.incoming.proofs.Arrivals.{addressed-owner}
 use Rattle.incoming.proofs.Passing.{addressed}
 
 -- a packet finds its line, which is open, by its identifier
-pub pass-address : (b : Book) (s : List ℕ) → verdict (addressTests b s) ≡ Pass → lineOf b (lineAt (packetLine b s)) .opened ≡ true
+pub pass-address : (b : Book) (s : List ℕ) → verdict (addressTests b s) ≡ Pass → isOpen (lineOf b (lineAt (packetLine b s))) ≡ true
 pass-address b s e =
     let i = lineAt (packetLine b s) in
     whose-at b (headAt s .identifier) i (addressed-owner b s {r = may.At i} (sym (ap (λ (v : Verdict). settle {A = ArriveVerdict} v may.Refused (may.At i)) e)) refl) .1
@@ -68,7 +69,7 @@ opens (call.arrival s) = false
 opens (call.handOut i channel) = false
 opens (call.report i channel) = false
 
-pub pass-open : (c : Call) (b : Book) (n space : ℕ) → verdict (tests c b n space) ≡ Pass → opens c ≡ false → lineOf b (lineFor c b) .opened ≡ true
+pub pass-open : (c : Call) (b : Book) (n space : ℕ) → verdict (tests c b n space) ≡ Pass → opens c ≡ false → isOpen (lineOf b (lineFor c b)) ≡ true
 unfolding tests lineFor closeTests modeTests relayChannelTests takeCallTests sendTests emptyTests handCallTests
 pass-open (call.opening i s time) b n space e o = clash (sym o)
 pass-open (call.closing i) b n space e o = passed (closeTests (lineOf b i) space) (line-passed b i (closeTests (lineOf b i) space) e .1) .0

@@ -5,7 +5,7 @@ use mathlib.Core.Path.{_≡_, refl, sym, ap, subst, _∙_}
 use mathlib.Core.Bool.{Bool, true, false, not}
 use mathlib.Core.List.{List, [], _∷_, _++_}
 use native.Mathlib.Decide.{ℕ-discrete}
-use lib.Dec.{leb}
+use lib.Dec.{eqb, leb}
 use lib.ListN.{length, getD, set, drop}
 use lib.Seq.{set-set, set-comm}
 use Rattle.ground.specs.Pick.{pick}
@@ -19,7 +19,7 @@ use Rattle.ground.proofs.Either.{by-test}
 use Rattle.ground.proofs.Verdicts.{verdict-stop}
 use Rattle.packet.specs.Read.{headAt, headTests}
 use Rattle.line.specs.Fit.{settingsFit}
-use Rattle.line.specs.Line.{closedLine, openedLine}
+use Rattle.line.specs.Line.{isOpen, closedLine, openedLine}
 use Rattle.line.specs.declared.Line.{Line}
 use Rattle.line.specs.declared.Settings.{Settings}
 use Rattle.relay.specs.RelayTests.{relayChannelTests}
@@ -38,7 +38,7 @@ use Rattle.book.proofs.Unread.{closed-unread, taken-unread, whose-unread}
 use Rattle.calls.specs.Call.{Call}
 use Rattle.calls.specs.Call as call
 use Rattle.calls.specs.Order.{lineFor, packetLine, isSomebody, lineAt}
-use Rattle.calls.specs.Parts.{tests, fitBook, roomy, lineNumber, isOpen, openTests, closeTests, modeTests, addressTests, arrivalTests}
+use Rattle.calls.specs.Parts.{tests, fitBook, roomy, lineNumber, mustBeOpen, openTests, closeTests, modeTests, addressTests, arrivalTests}
 use Rattle.calls.specs.Result.{CallResult, Effect, resultWith, resultOf, acceptedResult, effect}
 use Rattle.calls.proofs.OrderParts.{in-parts}
 use Rattle.calls.proofs.Results.{result-accepted, did-refused}
@@ -69,7 +69,7 @@ put-beside ls i j m x z = go (ℕ-discrete i j)
     go (no n) = sym (ap (λ (r : List Line). set r i z) (set-comm ls i j m x n) ∙ set-set (set ls j x) i m z)
 
 -- a closed record put at i leaves line i closed, past the end too
-put-closed : (ls : List Line) (i : ℕ) (m : Line) → m .opened ≡ false → getD (set ls i m) i closedLine .opened ≡ false
+put-closed : (ls : List Line) (i : ℕ) (m : Line) → m .opened ≡ 0 → getD (set ls i m) i closedLine .opened ≡ 0
 put-closed [] i m c = refl
 put-closed (l ∷ ls) zero m c = c
 put-closed (l ∷ ls) (suc i) m c = put-closed ls i m c
@@ -100,50 +100,53 @@ resting-opens-none (call.handOut i channel) j l store out e = refl
 resting-opens-none (call.report i channel) j l store out e = refl
 
 -- A book whose line i is closed, and the same with another closed record there.
-module _ (b : Book) (i : ℕ) (o : lineOf b i .opened ≡ false) (m : Line) (c : m .opened ≡ false) where
+module _ (b : Book) (i : ℕ) (o : lineOf b i .opened ≡ 0) (m : Line) (c : m .opened ≡ 0) where
   abbrev other : Book
   other = withLine b i m
 
-  -- an open line is not line i, so it is the same in both
-  open-same : (j : ℕ) → lineOf b j .opened ≡ true → lineOf b j ≡ lineOf other j
-  open-same j p = sym (line-other b i m j (λ e. clash (sym o ∙ ap (λ (k : ℕ). lineOf b k .opened) e ∙ p)))
+  closed : isOpen (lineOf b i) ≡ false
+  closed = ap (λ (n : ℕ). eqb n 1) o
 
-  opened-same : (j : ℕ) → lineOf b j .opened ≡ lineOf other j .opened
+  -- an open line is not line i, so it is the same in both
+  open-same : (j : ℕ) → isOpen (lineOf b j) ≡ true → lineOf b j ≡ lineOf other j
+  open-same j p = sym (line-other b i m j (λ e. clash (sym closed ∙ ap (λ (k : ℕ). isOpen (lineOf b k)) e ∙ p)))
+
+  opened-same : (j : ℕ) → isOpen (lineOf b j) ≡ isOpen (lineOf other j)
   opened-same j = go (ℕ-discrete i j)
     where
-      go : Dec (i ≡ j) → lineOf b j .opened ≡ lineOf other j .opened
-      go (yes e) = subst (λ (k : ℕ). lineOf b k .opened ≡ lineOf other k .opened) e (o ∙ sym (put-closed (b .lines) i m c))
-      go (no n) = ap (λ (l : Line). l .opened) (sym (line-other b i m j n))
+      go : Dec (i ≡ j) → isOpen (lineOf b j) ≡ isOpen (lineOf other j)
+      go (yes e) = subst (λ (k : ℕ). isOpen (lineOf b k) ≡ isOpen (lineOf other k)) e (closed ∙ sym (ap (λ (n : ℕ). eqb n 1) (put-closed (b .lines) i m c)))
+      go (no n) = ap isOpen (sym (line-other b i m j n))
 
   -- tests that first ask whether the line is open
-  asks-same : (j : ℕ) (f : Line → List Test) → verdict (isOpen (lineOf b j) ∷ f (lineOf b j)) ≡ verdict (isOpen (lineOf other j) ∷ f (lineOf other j))
-  asks-same j f = go (lineOf b j .opened) refl
+  asks-same : (j : ℕ) (f : Line → List Test) → verdict (mustBeOpen (lineOf b j) ∷ f (lineOf b j)) ≡ verdict (mustBeOpen (lineOf other j) ∷ f (lineOf other j))
+  asks-same j f = go (isOpen (lineOf b j)) refl
     where
-      go : (t : Bool) → lineOf b j .opened ≡ t → verdict (isOpen (lineOf b j) ∷ f (lineOf b j)) ≡ verdict (isOpen (lineOf other j) ∷ f (lineOf other j))
-      go true e = ap (λ (l : Line). verdict (isOpen l ∷ f l)) (open-same j e)
+      go : (t : Bool) → isOpen (lineOf b j) ≡ t → verdict (mustBeOpen (lineOf b j) ∷ f (lineOf b j)) ≡ verdict (mustBeOpen (lineOf other j) ∷ f (lineOf other j))
+      go true e = ap (λ (l : Line). verdict (mustBeOpen l ∷ f l)) (open-same j e)
       go false e = rw (e, sym (opened-same j) ∙ e)
 
   -- behind BOOK, and ROOM for the store, and RANGE
   fits-same : bookFits b ≡ bookFits other
-  fits-same = sym (closed-unread b i o m c)
+  fits-same = sym (closed-unread b i closed m (c ∙ sym o))
 
   on-line-same : (j : ℕ) (f : Line → List Test)
-      → verdict (fitBook b ∷ lineNumber j ∷ isOpen (lineOf b j) ∷ f (lineOf b j)) ≡ verdict (fitBook other ∷ lineNumber j ∷ isOpen (lineOf other j) ∷ f (lineOf other j))
+      → verdict (fitBook b ∷ lineNumber j ∷ mustBeOpen (lineOf b j) ∷ f (lineOf b j)) ≡ verdict (fitBook other ∷ lineNumber j ∷ mustBeOpen (lineOf other j) ∷ f (lineOf other j))
   on-line-same j f = λ t. pick (fits-same t) (pick (leb j 3) (asks-same j f t) (Refuse RANGE)) (Refuse BOOK)
 
   on-lent-same : (n j : ℕ) (f : Line → List Test)
-      → verdict (fitBook b ∷ roomy n ∷ lineNumber j ∷ isOpen (lineOf b j) ∷ f (lineOf b j)) ≡ verdict (fitBook other ∷ roomy n ∷ lineNumber j ∷ isOpen (lineOf other j) ∷ f (lineOf other j))
+      → verdict (fitBook b ∷ roomy n ∷ lineNumber j ∷ mustBeOpen (lineOf b j) ∷ f (lineOf b j)) ≡ verdict (fitBook other ∷ roomy n ∷ lineNumber j ∷ mustBeOpen (lineOf other j) ∷ f (lineOf other j))
   on-lent-same n j f = λ t. pick (fits-same t) (pick (leb 42240 n) (pick (leb j 3) (asks-same j f t) (Refuse RANGE)) (Refuse ROOM)) (Refuse BOOK)
 
   opening-same : (j : ℕ) (s : Settings) → verdict (fitBook b ∷ lineNumber j ∷ openTests b j s) ≡ verdict (fitBook other ∷ lineNumber j ∷ openTests other j s)
   unfolding openTests
   opening-same j s =
-      let free : taken b (s .identifier) ≡ taken other (s .identifier) = sym (taken-unread b i o m c (s .identifier)) in
+      let free : taken b (s .identifier) ≡ taken other (s .identifier) = sym (taken-unread b i closed m (c ∙ sym o) (s .identifier)) in
       λ t. verdict (must (fits-same t) BOOK ∷ lineNumber j ∷ must (not (opened-same j t)) TAKEN ∷ must (settingsFit (s .identifier) (s .kind)) RANGE ∷ must (not (free t)) TAKEN ∷ [])
 
   -- a packet finds the same line
   finds-same : (s : List ℕ) → packetLine b s ≡ packetLine other s
-  finds-same s = sym (whose-unread b i o m c (headAt s .identifier))
+  finds-same s = sym (whose-unread b i closed m (c ∙ sym o) (headAt s .identifier))
 
   address-same : (s : List ℕ) → addressTests b s ≡ addressTests other s
   unfolding addressTests
@@ -233,14 +236,14 @@ module _ (b : Book) (i : ℕ) (o : lineOf b i .opened ≡ false) (m : Line) (c :
           (record { answer = refl; store = refl; out = refl; book = sym (put-twice b i m closedLine) })
 
 -- THE PROMISE: whatever stands in a closed line's record, every call gives the same answer and leaves the same, but for that record.
-pub closed-record-unread : (b : Book) (i : ℕ) (l m : Line) → l .opened ≡ false → m .opened ≡ false → (c : Call) (store out : List ℕ)
+pub closed-record-unread : (b : Book) (i : ℕ) (l m : Line) → l .opened ≡ 0 → m .opened ≡ 0 → (c : Call) (store out : List ℕ)
     → SameDid i (resultOf c (withLine b i l) store out) (resultOf c (withLine b i m) store out)
 closed-record-unread b i l m p q c store out =
     subst (λ (a : Book). SameDid i (resultOf c (withLine b i l) store out) (resultOf c a store out)) (put-twice b i l m)
     (did-same (withLine b i l) i (put-closed (b .lines) i l p) m q c store out)
 
 -- Opening that line writes the record whole: where it is accepted nothing at all differs.
-pub opening-unread : (b : Book) (i : ℕ) (l m : Line) → l .opened ≡ false → m .opened ≡ false → (s : Settings) (time : ℕ) (store out : List ℕ)
+pub opening-unread : (b : Book) (i : ℕ) (l m : Line) → l .opened ≡ 0 → m .opened ≡ 0 → (s : Settings) (time : ℕ) (store out : List ℕ)
     → resultOf (call.opening i s time) (withLine b i l) store out .answer .number ≡ 0
     → resultOf (call.opening i s time) (withLine b i l) store out ≡ resultOf (call.opening i s time) (withLine b i m) store out
 unfolding acceptedResult effect lineFor

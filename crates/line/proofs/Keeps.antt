@@ -1,10 +1,11 @@
 -- What BOOK asks of an open line as facts, and that opening and every change of mode keep it.
 -- Assumes nothing.
-use Prim.Native.Nat.{ℕ}
+use Prim.Native.Nat.{ℕ, _≤_}
 use mathlib.Core.Path.{_≡_, refl}
 use mathlib.Core.Bool.{Bool, true, false}
+use native.Mathlib.Omega.{arith}
 use lib.Dec.{lit≤, lit<, eqb}
-use borrow.Author.Tests.{ne-eqb, eqb-false}
+use borrow.Author.Tests.{eq-eqb, ne-eqb, eqb-true, eqb-false}
 use Rattle.ground.specs.Pick.{pick}
 use Rattle.ground.proofs.Picks.{each, together, pick-by}
 use Rattle.ground.proofs.Either.{or-second, or-either}
@@ -24,13 +25,14 @@ use Rattle.mode.proofs.Fits.{opened-fits}
 use Rattle.mode.proofs.Emptying.{channels-by}
 use Rattle.owed.specs.Owed.{owedFits}
 use Rattle.owed.proofs.Steps.{fresh-fits}
-use Rattle.line.specs.Line.{openedLine, sendingOf, receivingOf, withSides, withSending, withReceiving}
+use Rattle.line.specs.Line.{isOpen, openedLine, sendingOf, receivingOf, withSides, withSending, withReceiving}
 use Rattle.line.specs.Fit.{largest, settingsFit, idle, lineTests, lineFits}
 use Rattle.line.specs.Mode.{steppedTo}
 use Rattle.line.specs.declared.Line.{Line}
 use Rattle.line.specs.declared.Settings.{Settings}
 
 pub record LineOk (l : Line) : Type 0 where
+  pub flag : l .opened ≤ 1
   pub settings : settingsFit (l .identifier) (l .kind) ≡ true
   pub modes : modesFit (l .modes) ≡ true
   pub sending1 : sendingFits (windowOf 1) largest (l .sending1) ≡ true
@@ -41,11 +43,12 @@ pub record LineOk (l : Line) : Type 0 where
   pub quiet : (l .modes .local ≡ modem → ⊥) → idle l ≡ true
 
 -- the test decides the facts
-pub line-ok : (l : Line) → l .opened ≡ true → lineFits l ≡ true → LineOk l
+pub line-ok : (l : Line) → isOpen l ≡ true → lineFits l ≡ true → LineOk l
 unfolding lineFits
 line-ok l o e =
     let t = each (lineTests l) (rw o at e) in
     record {
+      flag = omega (arith, eqb-true (l .opened) 1 o);
       settings = t .0;
       modes = t .1 .0;
       sending1 = t .1 .1 .0;
@@ -59,15 +62,15 @@ line-ok l o e =
 pub ok-line : (l : Line) → LineOk l → lineFits l ≡ true
 unfolding lineFits
 ok-line l k =
-    pick-by (λ (t : Bool). t ≡ true) (l .opened)
+    pick-by (λ (t : Bool). t ≡ true) (isOpen l)
     (λ _. together (lineTests l) (
       k .settings,
       (k .modes, (k .sending1, (k .sending2, (k .receiving1, (k .receiving2, (k .owed, (or-either (eqb (l .modes .local) modem) (idle l) (λ e. k .quiet (eqb-false _ _ e)), tt))))))),
     ))
-    (λ _. refl)
+    (λ e. eq-eqb (l .opened) 0 (omega (arith, k .flag, eqb-false (l .opened) 1 e)))
 
--- BOOK skips a closed line
-pub closed-fits : (l : Line) → l .opened ≡ false → lineFits l ≡ true
+-- BOOK reads nothing else of a closed line
+pub closed-fits : (l : Line) → l .opened ≡ 0 → lineFits l ≡ true
 unfolding lineFits
 closed-fits l o = rw o
 
@@ -75,6 +78,7 @@ closed-fits l o = rw o
 pub opened-ok : (s : Settings) (time : ℕ) → settingsFit (s .identifier) (s .kind) ≡ true → LineOk (openedLine s time)
 opened-ok s time f =
     record {
+      flag = lit≤ tt;
       settings = f;
       modes = opened-fits (s .vbd) (s .relay) time;
       sending1 = fresh-sending 32 largest (lit≤ tt) (lit< tt);
@@ -91,6 +95,7 @@ unfolding steppedTo emptiedSending emptiedReceiving
 stepped-ok l k m f =
     channels-by (λ (c : Channels). LineOk (steppedTo l m c)) (l .modes .local) (m .local)
     (λ a b. record {
+      flag = k .flag;
       settings = k .settings;
       modes = f;
       sending1 = fresh-sending 32 largest (lit≤ tt) (lit< tt);
@@ -101,6 +106,7 @@ stepped-ok l k m f =
       quiet = λ n. rw mask-set;
     })
     (λ a b. record {
+      flag = k .flag;
       settings = k .settings;
       modes = f;
       sending1 = emptied-keeps 32 largest (lit≤ tt) (l .sending1) (k .sending1);
@@ -116,6 +122,7 @@ stepped-ok l k m f =
     stays : ((m .local ≡ modem → ⊥) → idle l ≡ true) → LineOk (record { opened = l .opened; identifier = l .identifier; kind = l .kind; modes = m; sending1 = l .sending1; sending2 = l .sending2; receiving1 = l .receiving1; receiving2 = l .receiving2; owed = l .owed })
     stays q =
         record {
+          flag = k .flag;
           settings = k .settings;
           modes = f;
           sending1 = k .sending1;
@@ -148,6 +155,7 @@ module _ (l : Line) (k : LineOk l) (inside : l .modes .local ≡ modem) (channel
       anew : (a b : Sending) → sendingFits 32 largest a ≡ true → sendingFits 8 largest b ≡ true → LineOk (withSides l a b (l .receiving1) (l .receiving2))
       anew a b p q =
           record {
+            flag = k .flag;
             settings = k .settings;
             modes = k .modes;
             sending1 = p;
@@ -168,6 +176,7 @@ module _ (l : Line) (k : LineOk l) (inside : l .modes .local ≡ modem) (channel
       anew : (a b : Receiving) → receivingFits 32 largest a ≡ true → receivingFits 8 largest b ≡ true → LineOk (withSides l (l .sending1) (l .sending2) a b)
       anew a b p q =
           record {
+            flag = k .flag;
             settings = k .settings;
             modes = k .modes;
             sending1 = k .sending1;

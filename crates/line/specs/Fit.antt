@@ -1,7 +1,7 @@
--- What BOOK asks of one line (RULES 13.18). "BOOK skips" a closed one (RULES 15.1).
+-- What BOOK asks of one line (RULES 13.18). Of a closed one it reads the flag that says so and nothing else (RULES 15.1).
 -- Assumes nothing.
 use Prim.Native.Nat.{ℕ}
-use mathlib.Core.Bool.{Bool, true, _||_}
+use mathlib.Core.Bool.{Bool, _||_}
 use mathlib.Core.List.{List, [], _∷_}
 use lib.Dec.{leb, eqb}
 use Rattle.ground.specs.Pick.{pick, allHold}
@@ -12,6 +12,7 @@ use Rattle.mode.specs.Given.{modem}
 use Rattle.mode.specs.Fit.{modesFit}
 use Rattle.owed.specs.Owed.{owedFits}
 use Rattle.line.specs.declared.Line.{Line}
+use Rattle.line.specs.Line.{isOpen}
 use Rattle.places.specs.Places.{maskOf}
 
 -- "A message has 1 to 132 octets" (RULES 3.4)
@@ -44,6 +45,6 @@ lineTests l =
     ∷ (eqb (l .modes .local) modem || idle l)
     ∷ []
 
--- of a closed line nothing is asked (RULES 15.1)
+-- of a line that is not open, that its flag is 0, and nothing else (RULES 15.1, RULES 15.2)
 unfoldable pub lineFits : Line → Bool
-lineFits l = pick (l .opened) (allHold (lineTests l)) true
+lineFits l = pick (isOpen l) (allHold (lineTests l)) (eqb (l .opened) 0)

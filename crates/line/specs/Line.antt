@@ -1,7 +1,7 @@
 -- A line's record: closed, just opened, and its two channels.
 -- Assumes nothing.
 use Prim.Native.Nat.{ℕ}
-use mathlib.Core.Bool.{true, false}
+use mathlib.Core.Bool.{Bool}
 use lib.Dec.{eqb}
 use Rattle.ground.specs.Pick.{pick}
 use Rattle.sending.specs.Sending.{freshSending}
@@ -14,10 +14,14 @@ use Rattle.owed.specs.declared.Owed.{Owed}
 use Rattle.line.specs.declared.Line.{Line}
 use Rattle.line.specs.declared.Settings.{Settings}
 
+-- the line is open: exactly if its flag is 1 (RULES 15.2)
+abbrev pub isOpen : Line → Bool
+isOpen l = eqb (l .opened) 1
+
 -- "A closed line's record is as in a fresh book" (RULES 7.5, RULES 7.7)
 abbrev pub closedLine : Line
 closedLine = record {
-  opened = false;
+  opened = 0;
   identifier = 0;
   kind = 0;
   modes = closedModes;
@@ -31,7 +35,7 @@ closedLine = record {
 -- "Opening names line, identifier .., payload type .., whether VBD and modem relay are offered, and the time" (RULES 7.1, RULES 7.3)
 abbrev pub openedLine : Settings → ℕ → Line
 openedLine s time = record {
-  opened = true;
+  opened = 1;
   identifier = s .identifier;
   kind = s .kind;
   modes = openedModes (s .vbd) (s .relay) time;

@@ -24,9 +24,10 @@ pub struct Settings {
     pub relay: bool,
 }
 
+#[repr(C)]
 pub struct Line {
-    // The line is open. Of a closed line nothing else is read.
-    pub opened: bool,
+    // OPEN or CLOSED. Of a closed line nothing else is read.
+    pub opened: u8,
     // 0 to 127; no other open line and no resting one has it.
     pub identifier: u8,
     // The payload type, 96 to 127.
@@ -49,6 +50,11 @@ pub fn settings_fit(identifier: u8, kind: u8) -> bool
 }
 
 impl Line {
+    // What the flag of a line may be.
+    pub const CLOSED: u8 = 0;
+
+    pub const OPEN: u8 = 1;
+
     // A closed line, as in a fresh book.
     pub fn closed() -> Line
         ensures { λ r. ⌜ r ≡ closedLine ⌝ }
@@ -58,7 +64,7 @@ impl Line {
         let receiving = Receiving::fresh();
         let owed = Owed::fresh();
         Line {
-            opened: false,
+            opened: Line::CLOSED,
             identifier: 0,
             kind: 0,
             modes,
@@ -77,7 +83,7 @@ impl Line {
         let modes = Modes::opened(settings.vbd, settings.relay, time);
         let closed = Line::closed();
         Line {
-            opened: true,
+            opened: Line::OPEN,
             identifier: settings.identifier,
             kind: settings.kind,
             modes,
@@ -146,12 +152,12 @@ impl Line {
         a & b & c & d & (self.owed.count == 0)
     }
 
-    // What BOOK asks of a line: nothing of a closed one.
+    // What BOOK asks of a line: of a closed one, only the flag that says so.
     pub fn fits(self) -> bool
         ensures { λ r. ⌜ r ≡ lineFits self ⌝ }
     {
-        if !self.opened {
-            return true;
+        if self.opened != Line::OPEN {
+            return self.opened == Line::CLOSED;
         }
         let settings = settings_fit(self.identifier, self.kind);
         let modes = self.modes.fits();

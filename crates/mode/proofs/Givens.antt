@@ -7,20 +7,20 @@ use lib.Dec.{eqb}
 use borrow.Author.Tests.{eqb-true, eqb-false}
 use Rattle.ground.proofs.Picks.{pick-by}
 use Rattle.mode.specs.declared.Modes.{Modes}
-use Rattle.mode.specs.Given.{audio, voiceband, modem, mayRelay, asVoiceband, faxOrText, given}
+use Rattle.mode.specs.Given.{audio, voiceband, modem, offersVbd, mayRelay, asVoiceband, faxOrText, given}
 
-voiceband-by : (P : ℕ → Type 0) (l : Modes) → P audio → (l .vbd ≡ true → P voiceband) → P (asVoiceband l)
-voiceband-by P l a v = pick-by P (l .vbd) v (λ e. a)
+voiceband-by : (P : ℕ → Type 0) (l : Modes) → P audio → (offersVbd l ≡ true → P voiceband) → P (asVoiceband l)
+voiceband-by P l a v = pick-by P (offersVbd l) v (λ e. a)
 
 -- whatever is chosen for fax and text, it is a, or v where v is offered
-fax-or-text-by : (P : ℕ → Type 0) (l : Modes) → P audio → (l .vbd ≡ true → P voiceband) → P (faxOrText l)
+fax-or-text-by : (P : ℕ → Type 0) (l : Modes) → P audio → (offersVbd l ≡ true → P voiceband) → P (faxOrText l)
 unfolding faxOrText
 fax-or-text-by = voiceband-by
 
 -- a may always come; v where it is offered and a was not heard; m where m was heard, is offered, and was not left or is the mode now
 pub given-by : (P : ℕ → Type 0) (l : Modes) (k : ℕ) →
     P audio →
-    ((k ≡ audio → ⊥) → l .vbd ≡ true → P voiceband) →
+    ((k ≡ audio → ⊥) → offersVbd l ≡ true → P voiceband) →
     (k ≡ modem → mayRelay l ≡ true → P modem) →
     P (given l k)
 unfolding given

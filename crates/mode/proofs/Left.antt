@@ -1,17 +1,16 @@
 -- "Leaving m, for any cause, ends relay for that opening": a line that left m never enters it again, whatever mode calls come.
 -- Assumes nothing.
 use Prim.Native.Nat.{ℕ}
-use mathlib.Core.Path.{_≡_, sym}
+use mathlib.Core.Path.{_≡_, refl, sym}
 use mathlib.Core.Bool.{true, false, _&&_}
 use mathlib.Core.List.{List}
 use native.Mathlib.Omega.{arith}
 use lib.Dec.{eqb}
 use borrow.Author.Tests.{eq-eqb, ne-eqb}
-use Rattle.ground.proofs.Either.{or-true}
 use Rattle.ground.proofs.Picks.{pick-by, both-true, clash}
 use Rattle.mode.specs.declared.Modes.{Modes}
-use Rattle.mode.specs.Given.{audio, modem}
-use Rattle.mode.specs.Moved.{moved, trying}
+use Rattle.mode.specs.Given.{audio, modem, offersRelay, hasLeft}
+use Rattle.mode.specs.Moved.{leaves, moved, trying}
 use Rattle.mode.specs.Indication.{heardMode}
 use Rattle.mode.specs.Acts.{Act, after, run}
 use Rattle.mode.proofs.Givens.{given-by}
@@ -19,7 +18,7 @@ use Rattle.mode.proofs.Steps.{asks, after-by, run-keeps, heard-by, tick
 
 -- modem relay was left, and is not the mode now
 pub record Gone (l : Modes) : Type 0 where
-  pub left : l .left ≡ true
+  pub left : hasLeft l ≡ true
   pub away : l .local ≡ modem → ⊥
 
 -- a line that left m is given something else by every indication
@@ -27,18 +26,18 @@ heard-away : (l : Modes) (k : ℕ) → Gone l → heardMode l k ≡ modem → �
 unfolding heardMode
 heard-away l k g =
     pick-by (λ s. s ≡ modem → ⊥) (eqb (l .tries) 0)
-    (λ t. given-by (λ s. s ≡ modem → ⊥) l k (λ e. omega arith) (λ h v e. omega arith) (λ e h. clash (rw (g .left, ne-eqb (l .local) modem (g .away)) at (both-true (l .relay) _ h .1))))
+    (λ t. given-by (λ s. s ≡ modem → ⊥) l k (λ e. omega arith) (λ h v e. omega arith) (λ e h. clash (rw (g .left, ne-eqb (l .local) modem (g .away)) at (both-true (offersRelay l) _ h .1))))
     (λ t e. omega arith)
 
 moved-gone : (l : Modes) (s r time : ℕ) → Gone l → (s ≡ modem → ⊥) → Gone (moved l s r time)
 unfolding moved
-moved-gone l s r time g h = record { left = rw (g .left); away = h }
+moved-gone l s r time g h = record { left = pick-by (λ (n : ℕ). eqb n 1 ≡ true) (leaves (l .local) s) (λ e. refl) (λ e. g .left); away = h }
 
 trying-gone : (l : Modes) (n time : ℕ) → Gone l → Gone (trying l n time)
 unfolding trying
 trying-gone l n time g = record { left = g .left; away = g .away }
 
-asked-away : (l : Modes) (k : ℕ) → Gone l → (eqb k modem && l .left) ≡ false → k ≡ modem → ⊥
+asked-away : (l : Modes) (k : ℕ) → Gone l → (eqb k modem && hasLeft l) ≡ false → k ≡ modem → ⊥
 asked-away l k g f e = clash (sym (rw (eq-eqb k modem e, g .left) at f))
 
 -- one call keeps m away
@@ -63,11 +62,11 @@ left-for-good l g acts = run-keeps Gone gone-stays l g acts .away
 
 -- whatever takes S out of m is marked
 LeftMarked : Modes → Type 0
-LeftMarked l = (l .local ≡ modem → ⊥) → l .left ≡ true
+LeftMarked l = (l .local ≡ modem → ⊥) → hasLeft l ≡ true
 
 moved-marked : (l : Modes) (s r time : ℕ) → l .local ≡ modem → LeftMarked (moved l s r time)
 unfolding moved LeftMarked
-moved-marked l s r time e h = rw (eq-eqb (l .local) modem e, ne-eqb s modem h) (or-true (l .left))
+moved-marked l s r time e h = rw (eq-eqb (l .local) modem e, ne-eqb s modem h)
 
 trying-marked : (l : Modes) (n time : ℕ) → LeftMarked l → LeftMarked (trying l n time)
 unfolding trying LeftMarked

@@ -7,7 +7,7 @@ use mathlib.Core.List.{List}
 use Rattle.ground.proofs.Picks.{clash}
 use Rattle.mode.specs.declared.Modes.{Modes}
 use Rattle.mode.specs.declared.Channels.the-variants.{Stay}
-use Rattle.mode.specs.Given.{modem}
+use Rattle.mode.specs.Given.{modem, offersRelay}
 use Rattle.mode.specs.Moved.{openedModes, moved, trying}
 use Rattle.mode.specs.Fit.{modesFit}
 use Rattle.mode.specs.Acts.{Act, outcome, after, run}
@@ -18,16 +18,16 @@ use Rattle.mode.proofs.Steps.{moves-by, run-keeps}
 -- modes that BOOK lets pass, and relay is not offered
 pub record Plain (l : Modes) : Type 0 where
   pub fits : modesFit l ≡ true
-  pub without : l .relay ≡ false
+  pub without : offersRelay l ≡ false
 
 -- S is not m, as m is not offered
 pub not-modem : (l : Modes) → Plain l → l .local ≡ modem → ⊥
 not-modem l p e = clash (sym (p .without) ∙ fit-facts l (p .fits) .relays e)
 
 -- no call changes what is offered
-pub relay-stays : (l : Modes) (act : Act) → after l act .relay ≡ l .relay
+pub relay-stays : (l : Modes) (act : Act) → offersRelay (after l act) ≡ offersRelay l
 unfolding moved trying
-relay-stays l act = moves-by (λ n. n .relay ≡ l .relay) l refl act (λ s r. refl) (λ s r n t. refl)
+relay-stays l act = moves-by (λ n. offersRelay n ≡ offersRelay l) l refl act (λ s r. refl) (λ s r n t. refl)
 
 pub plain-stays : (l : Modes) → Plain l → (act : Act) → Plain (after l act)
 plain-stays l p act = record { fits = call-keeps l (p .fits) act; without = relay-stays l act ∙ p .without }

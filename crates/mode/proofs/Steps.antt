@@ -2,7 +2,7 @@
 -- Assumes nothing.
 use Prim.Native.Nat.{ℕ, _≤_, _<_, _+_, _-_}
 use mathlib.Core.Path.{_≡_, refl, sym, subst}
-use mathlib.Core.Bool.{Bool, true, false, _&&_, _||_, not}
+use mathlib.Core.Bool.{Bool, true, false, _&&_, not}
 use mathlib.Core.List.{List, [], _∷_}
 use native.Mathlib.Omega.{arith}
 use borrow.Author.Tests.{eqb-true, eqb-false, ltb-true, ltb-false, leb-true, not-true, lt-ltb, eq-eqb, ne-eqb}
@@ -10,7 +10,7 @@ use lib.Dec.{eqb, ltb}
 use Rattle.ground.specs.Pick.{pick}
 use Rattle.ground.specs.Refusal.{verdict}
 use Rattle.ground.specs.declared.Verdict.the-variants.{Pass}
-use Rattle.ground.proofs.Either.{by-test, or-false}
+use Rattle.ground.proofs.Either.{by-test}
 use Rattle.ground.proofs.Picks.{pick-by, both-true, clash}
 use Rattle.ground.proofs.Settled.{settled-by}
 use Rattle.ground.proofs.Verdicts.{passed}
@@ -20,7 +20,7 @@ use Rattle.mode.specs.declared.TickAnswer.the-variants.{Quiet, Audio, En
 use Rattle.mode.specs.declared.HearStep.{HearStep}
 use Rattle.mode.specs.declared.AskStep.{AskStep}
 use Rattle.mode.specs.declared.TickStep.{TickStep}
-use Rattle.mode.specs.Given.{unknown, audio, modem, text, offered}
+use Rattle.mode.specs.Given.{unknown, audio, modem, text, hasLeft, offered}
 use Rattle.mode.specs.Moved.{timed, moved, trying, stayed, ended}
 use Rattle.mode.specs.Indication.{hearTests, heardMode, heardModes, hearStep}
 use Rattle.mode.specs.Request.{askTests, askStep}
@@ -39,7 +39,7 @@ pub record Asked (l : Modes) (k time : ℕ) : Type 0 where
   pub inTime : l .last ≤ time
   pub calm : l .tries ≡ 0
   pub offers : offered l k ≡ true
-  pub fresh : (eqb k modem && l .left) ≡ false
+  pub fresh : (eqb k modem && hasLeft l) ≡ false
 
 pub hears : (l : Modes) (k time : ℕ) → verdict (hearTests l k time) ≡ Pass → Heard l k time
 hears l k time e =
@@ -65,9 +65,9 @@ asks l k time e =
 pub ticks : (l : Modes) (time : ℕ) → verdict (tickTests l time) ≡ Pass → l .last ≤ time
 ticks l time e = leb-true _ _ (passed (tickTests l time) e .0)
 
-same-left : (a b : Bool) → (a || (b && not b)) ≡ a
-same-left a true = or-false a
-same-left a false = or-false a
+same-left : (t : Bool) (left : ℕ) → pick (t && not t) 1 left ≡ left
+same-left true left = refl
+same-left false left = refl
 
 same-since : (t : Bool) (since time : ℕ) → pick t (pick t since time) (pick t 0 since) ≡ since
 same-since true since time = refl
@@ -77,7 +77,7 @@ same-since false since time = refl
 pub moved-same : (l : Modes) (time : ℕ) → moved l (l .local) (l .remote) time ≡ stayed l time
 unfolding moved timed stayed
 moved-same l time =
-    let left = same-left (l .left) (eqb (l .local) modem) in
+    let left = same-left (eqb (l .local) modem) (l .left) in
     let since = same-since (eqb (l .local) (l .remote)) (l .since) time in
     λ i. record {
       vbd = l .vbd;

@@ -25,17 +25,27 @@ fax = 4
 abbrev pub text : ℕ
 text = 5
 
+-- a flag is set exactly if it is 1 (RULES 15.2): VBD is offered, modem relay is offered, modem relay was left in this opening
+abbrev pub offersVbd : Modes → Bool
+offersVbd l = eqb (l .vbd) 1
+
+abbrev pub offersRelay : Modes → Bool
+offersRelay l = eqb (l .relay) 1
+
+abbrev pub hasLeft : Modes → Bool
+hasLeft l = eqb (l .left) 1
+
 -- a local mode that the line offers: a always, v and m as opening named them, no other (RULES 7.1, RULES 13.13)
 abbrev pub offered : Modes → ℕ → Bool
-offered l k = eqb k audio || (eqb k voiceband && l .vbd) || (eqb k modem && l .relay)
+offered l k = eqb k audio || (eqb k voiceband && offersVbd l) || (eqb k modem && offersRelay l)
 
 -- "v gives v if offered, else a" (RULES 9.5)
 abbrev pub asVoiceband : Modes → ℕ
-asVoiceband l = pick (l .vbd) voiceband audio
+asVoiceband l = pick (offersVbd l) voiceband audio
 
 -- m is "offered and the line has not been in m before or is in it now" (RULES 9.6)
 abbrev pub mayRelay : Modes → Bool
-mayRelay l = l .relay && (not (l .left) || eqb (l .local) modem)
+mayRelay l = offersRelay l && (not (hasLeft l) || eqb (l .local) modem)
 
 -- "m gives m if" it may; "else as for v" (RULES 9.6)
 abbrev pub asModem : Modes → ℕ

@@ -1,9 +1,9 @@
 -- The modes at opening and at closing, and what a change of modes or of the try leaves in the record.
 -- Assumes nothing.
 use Prim.Native.Nat.{ℕ}
-use mathlib.Core.Bool.{Bool, false, _&&_, _||_, not}
+use mathlib.Core.Bool.{Bool, false, _&&_, not}
 use lib.Dec.{eqb, leb, ltb}
-use Rattle.ground.specs.Pick.{pick}
+use Rattle.ground.specs.Pick.{pick, bit}
 use Rattle.ground.specs.Refusal.{Test, must}
 use Rattle.ground.specs.declared.Refusal.the-variants.{CLOCK}
 use Rattle.mode.specs.declared.Modes.{Modes}
@@ -14,11 +14,11 @@ use Rattle.mode.specs.Given.{audio, modem}
 -- "At opening both are a" (RULES 9.2); "opening .. set[s] the line's last time" (RULES 10.11)
 abbrev pub openedModes : Bool → Bool → ℕ → Modes
 openedModes vbd relay time = record {
-  vbd = vbd;
-  relay = relay;
+  vbd = bit vbd;
+  relay = bit relay;
   local = audio;
   remote = audio;
-  left = false;
+  left = 0;
   tries = 0;
   since = 0;
   tried = 0;
@@ -48,15 +48,18 @@ timed l s r time =
     (pick (eqb s r) (l .since) time)
     (pick (eqb s r) 0 (l .since))
 
--- the record once the local mode is s and the remote mode r at a time: "Leaving m, for any cause, ends relay for that opening"
--- (RULES 9.13)
+-- "Leaving m, for any cause, ends relay for that opening" (RULES 9.13): the flag, once the local mode is s
+abbrev pub leftBy : Modes → ℕ → ℕ
+leftBy l s = pick (leaves (l .local) s) 1 (l .left)
+
+-- the record once the local mode is s and the remote mode r at a time
 unfoldable pub moved : Modes → ℕ → ℕ → ℕ → Modes
 moved l s r time = record {
   vbd = l .vbd;
   relay = l .relay;
   local = s;
   remote = r;
-  left = l .left || leaves (l .local) s;
+  left = leftBy l s;
   tries = l .tries;
   since = timed l s r time;
   tried = l .tried;

@@ -10,7 +10,7 @@ use Rattle.mode.specs.declared.Modes.{Modes}
 use Rattle.mode.specs.declared.Channels.the-variants.{Stay}
 use Rattle.mode.specs.declared.AskAnswer.the-variants.{Mode, Refused}
 use Rattle.mode.specs.declared.AskStep.{AskStep}
-use Rattle.mode.specs.Given.{modem, offered}
+use Rattle.mode.specs.Given.{modem, hasLeft, offered}
 use Rattle.mode.specs.Moved.{channelsFor, moved, inTime}
 
 -- "CLOCK, RECOVERY, RANGE, MODE" (RULES 14.11, RULES 14.21)
@@ -22,7 +22,7 @@ askTests l k time =
     -- "a request for a mode not offered" (RULES 13.13)
     ∷ must (offered l k) RANGE
     -- "request for m once m was left" (RULES 13.5)
-    ∷ must (not (eqb k modem && l .left)) MODE
+    ∷ must (not (eqb k modem && hasLeft l)) MODE
     ∷ []
 
 -- the call: the first refusal that holds, with nothing changed (RULES 1.6); else the local mode is the one named (RULES 9.9), and the

@@ -2,22 +2,23 @@
 // It follows RULES 9.1 to RULES 9.14 and RULES 10.1 to RULES 10.12 (V.150.1, C.5.3 and C.5.4.1). What an indication, a request and a
 // tick make of the record is defined in specs/, and the laws of any sequence of them stand in proofs/; `moves` has the calls.
 ghost use mathlib.Core.Path.{_≡_};
-ghost use Rattle.mode.specs.Moved.{openedModes, closedModes, enters, leaves, channelsFor, timed, moved, trying, stayed, ended};
+ghost use Rattle.mode.specs.Moved.{openedModes, closedModes, enters, leaves, channelsFor, timed, leftBy, moved, trying, stayed, ended};
 ghost use Rattle.mode.specs.Fit.{modesFit};
 use ground::Refusal;
 
-// What a line remembers of its media modes.
+// What a line remembers of its media modes. A flag is 1 where it is so, and 0 where it is not.
+#[repr(C)]
 pub struct Modes {
     // VBD is offered, as opening named it.
-    pub vbd: bool,
+    pub vbd: u8,
     // Modem relay is offered, as opening named it.
-    pub relay: bool,
+    pub relay: u8,
     // S, the local mode: 1 a, 2 v or 3 m.
     pub local: u8,
     // The remote mode, as last heard: 1 a to 5 t, or 0 for i.
     pub remote: u8,
     // Modem relay was left in this opening.
-    pub left: bool,
+    pub left: u8,
     // 0 no recovery, 1 to 5 recovering at that try, 6 ended by recovery.
     pub tries: u8,
     // When the present difference of the modes began; read only while they differ, and then at most `last`.
@@ -110,6 +111,9 @@ pub fn channels_for(before: u8, after: u8) -> Channels
 }
 
 impl Modes {
+    // A flag that is set.
+    pub const YES: u8 = 1;
+
     // The modes, as Table C.1 numbers them; 0 is i.
     pub const UNKNOWN: u8 = 0;
 
@@ -137,11 +141,11 @@ impl Modes {
         ensures { λ r. ⌜ r ≡ openedModes vbd relay time ⌝ }
     {
         Modes {
-            vbd,
-            relay,
+            vbd: vbd as u8,
+            relay: relay as u8,
             local: Modes::AUDIO,
             remote: Modes::AUDIO,
-            left: false,
+            left: 0,
             tries: 0,
             since: 0,
             tried: 0,
@@ -160,12 +164,15 @@ impl Modes {
     pub fn fits(self) -> bool
         ensures { λ r. ⌜ r ≡ modesFit self ⌝ }
     {
-        (Modes::AUDIO <= self.local)
+        (self.vbd <= Modes::YES)
+            & (self.relay <= Modes::YES)
+            & (self.left <= Modes::YES)
+            & (Modes::AUDIO <= self.local)
             & (self.local <= Modes::MODEM)
             & (self.remote <= Modes::TEXT)
             & (self.tries <= Modes::ENDED)
-            & ((self.local != Modes::VOICEBAND) | self.vbd)
-            & ((self.local != Modes::MODEM) | self.relay)
+            & ((self.local != Modes::VOICEBAND) | (self.vbd == Modes::YES))
+            & ((self.local != Modes::MODEM) | (self.relay == Modes::YES))
             & ((self.tries == 0) | (self.local == Modes::AUDIO))
             & ((self.local == self.remote) | (self.since <= self.last))
             & ((self.tries == 0) | (self.tried <= self.last))
@@ -182,11 +189,22 @@ impl Modes {
         }
     }
 
+    // Whether modem relay was left, once the local mode is this one.
+    fn left_by(self, local: u8) -> u8
+        ensures { λ r. ⌜ r ≡ leftBy self local ⌝ }
+    {
+        if leaves_m(self.local, local) {
+            Modes::YES
+        } else {
+            self.left
+        }
+    }
+
     // The record once the modes are these at that time.
     pub fn moved(self, local: u8, remote: u8, time: u64) -> Modes
         ensures { λ r. ⌜ r ≡ moved self local remote time ⌝ }
     {
-        let left = self.left | leaves_m(self.local, local);
+        let left = self.left_by(local);
         let since = self.timed(local, remote, time);
         Modes {
             local,

@@ -19,7 +19,7 @@ use mode::channels_for;
 fn as_voiceband(modes: Modes) -> u8
     ensures { λ r. ⌜ r ≡ asVoiceband modes ⌝ }
 {
-    if modes.vbd {
+    if modes.vbd == Modes::YES {
         Modes::VOICEBAND
     } else {
         Modes::AUDIO
@@ -30,7 +30,7 @@ fn as_voiceband(modes: Modes) -> u8
 fn as_modem(modes: Modes) -> u8
     ensures { λ r. ⌜ r ≡ asModem modes ⌝ }
 {
-    if modes.relay & (!modes.left | (modes.local == Modes::MODEM)) {
+    if (modes.relay == Modes::YES) & ((modes.left != Modes::YES) | (modes.local == Modes::MODEM)) {
         Modes::MODEM
     } else {
         as_voiceband(modes)

@@ -19,8 +19,8 @@ fn offers(modes: Modes, mode: u8) -> bool
     ensures { λ r. ⌜ r ≡ offered modes mode ⌝ }
 {
     (mode == Modes::AUDIO)
-        | ((mode == Modes::VOICEBAND) & modes.vbd)
-        | ((mode == Modes::MODEM) & modes.relay)
+        | ((mode == Modes::VOICEBAND) & (modes.vbd == Modes::YES))
+        | ((mode == Modes::MODEM) & (modes.relay == Modes::YES))
 }
 
 // What refuses a request: CLOCK, RECOVERY, RANGE, MODE.
@@ -36,7 +36,7 @@ fn ask_verdict(modes: Modes, mode: u8, time: u64) -> Verdict
     if !offers(modes, mode) {
         return Verdict::Refuse(Refusal::RANGE);
     }
-    if (mode == Modes::MODEM) & modes.left {
+    if (mode == Modes::MODEM) & (modes.left == Modes::YES) {
         return Verdict::Refuse(Refusal::MODE);
     }
     Verdict::Pass

@@ -8,6 +8,7 @@ ghost use Rattle.field.specs.Word.{wordOf};
 ghost use Rattle.owed.specs.Owed.{freshOwed, owedOf, member, entered, firstThree, withoutThree, owedFits, markOf};
 use packet::Acks;
 
+#[repr(C)]
 pub struct Owed {
     // The entries there are, oldest first; what stands after them is not read.
     pub numbers: [u16; 64],

@@ -5,6 +5,7 @@ ghost use Prim.Native.Nat.{_/_, _^_, _<_};
 ghost use lib.Dec.{eqb};
 ghost use Rattle.places.specs.Places.{maskOf, setOf, widest, bitOf, withBit, withoutBit, within, countOf, rankOf};
 
+#[repr(C)]
 pub struct Places {
     // Bit i stands for place i.
     pub bits: u32,

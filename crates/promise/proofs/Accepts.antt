@@ -30,7 +30,7 @@ use Rattle.sending.specs.declared.Ranked.the-variants.{Is}
 use Rattle.flow.proofs.Keeps.{receiving-sized}
 use Rattle.flow.specs.Flow.{Message, Full}
 use Rattle.line.specs.Fit.{largest, lineFits}
-use Rattle.line.specs.Line.{sendingOf, receivingOf}
+use Rattle.line.specs.Line.{isOpen, sendingOf, receivingOf}
 use Rattle.line.specs.declared.Line.{Line}
 use Rattle.mode.specs.Given.{modem}
 use Rattle.store.specs.declared.Way.the-variants as way
@@ -62,7 +62,7 @@ unfolding heldOf
 ranked-is l channel rank e = ap (heldAt (windowOf channel) (sendingOf l channel)) e
 
 -- On a line in modem relay.
-module _ (l : Line) (opened : l .opened ≡ true) (inside : l .modes .local ≡ modem) where
+module _ (l : Line) (opened : isOpen l ≡ true) (inside : l .modes .local ≡ modem) where
   pub relay-asked : (channel : ℕ) → reliable channel ≡ true → verdict (relayChannelTests l channel) ≡ Pass
   unfolding relayChannelTests
   relay-asked channel v = passes (relayChannelTests l channel) (opened, (eq-eqb _ _ inside, (v, tt)))
@@ -91,7 +91,7 @@ module _ (l : Line) (opened : l .opened ≡ true) (inside : l .modes .local ≡ 
 
 -- a hand-out is not refused where message R is stored; space is the output's length
 module _ (c : ℕ) (v : reliable c ≡ true) (space : ℕ) (roomy : largest ≤ space) where
-  pub hand-may : {e f : End} → Joined e f → f .line .opened ≡ true → f .line .modes .local ≡ modem → Full (got f c .stored (got f c .R)) → verdict (handCallTests (f .line) c space) ≡ Pass
+  pub hand-may : {e f : End} → Joined e f → isOpen (f .line) ≡ true → f .line .modes .local ≡ modem → Full (got f c .stored (got f c .R)) → verdict (handCallTests (f .line) c space) ≡ Pass
   unfolding handCallTests relayChannelTests
   hand-may {e} {f} j opened inside full =
       let r : Receiving = receivingOf (f .line) c in

@@ -17,7 +17,7 @@ use Rattle.mode.specs.Acts.{ask, outcome}
 use Rattle.mode.specs.declared.Modes.{Modes}
 use Rattle.owed.specs.Owed.{member}
 use Rattle.line.specs.Fit.{settingsFit}
-use Rattle.line.specs.Line.{closedLine, openedLine}
+use Rattle.line.specs.Line.{isOpen, closedLine, openedLine}
 use Rattle.line.specs.declared.Line.{Line}
 use Rattle.line.specs.declared.Settings.{Settings}
 use Rattle.book.specs.Book.{freshBook, openIn}
@@ -66,7 +66,7 @@ module _ (store : List ℕ) (long : 42240 ≤ length store) (i : ℕ) (small : i
   unfolding tests openTests openIn member
   open-passes =
       passes (fitBook freshBook ∷ lineNumber i ∷ openTests freshBook i s)
-      (fresh .fits, (numbered, (ap (λ (l : Line). not (l .opened)) (getD-alike 4 i closedLine), (fit, (refl, tt)))))
+      (fresh .fits, (numbered, (ap (λ (l : Line). not (isOpen l)) (getD-alike 4 i closedLine), (fit, (refl, tt)))))
 
   opened : lineAt h i ≡ openedLine s time
   unfolding lineFor effect
@@ -98,7 +98,7 @@ module _ (store : List ℕ) (long : 42240 ≤ length store) (i : ℕ) (small : i
         accepted = call-accepted g opening out open-passes;
         there = record {
           accepted = call-accepted h asks out ask-passes;
-          opened = ap (λ (x : Line). x .opened) line ∙ stepped-open l (o .modes) (o .channels) its .opened;
+          opened = ap isOpen line ∙ stepped-open l (o .modes) (o .channels) its .opened;
           inside = ap (λ (x : Line). x .modes .local) line ∙ ap (λ (m : Modes). m .local) (stepped-modes l (o .modes) (o .channels)) ∙ asked-modem (l .modes) then asked;
         };
       }

@@ -24,7 +24,7 @@ use Rattle.line.specs.declared.Line.{Line}
 use Rattle.book.specs.Book.{lineOf}
 use Rattle.book.proofs.OtherLines.{line-same}
 use Rattle.calls.specs.Call as call
-use Rattle.calls.specs.Parts.{fitBook, lineNumber, isOpen}
+use Rattle.calls.specs.Parts.{fitBook, lineNumber, mustBeOpen}
 use Rattle.calls.specs.Result.{CallResult}
 use Rattle.mode.proofs.Refusing.{settles}
 use Rattle.calls.proofs.Results.{moved-did}
@@ -50,8 +50,8 @@ module _ {g : Gateway} {i : ℕ} (r : Ready g i) (a : Act) (out : List ℕ) wher
   abbrev m : Modes
   m = lineAt g i .modes
 
-  there : verdict (fitBook (g .book) ∷ lineNumber i ∷ isOpen (lineAt g i) ∷ []) ≡ Pass
-  there = passes (fitBook (g .book) ∷ lineNumber i ∷ isOpen (lineAt g i) ∷ []) (r .fits, (le-leb i 3 (omega (arith, r .small)), (r .opened, tt)))
+  there : verdict (fitBook (g .book) ∷ lineNumber i ∷ mustBeOpen (lineAt g i) ∷ []) ≡ Pass
+  there = passes (fitBook (g .book) ∷ lineNumber i ∷ mustBeOpen (lineAt g i) ∷ []) (r .fits, (le-leb i 3 (omega (arith, r .small)), (r .opened, tt)))
 
   -- a mode call does what it does to the modes of its line, and says what it says of them
   modes-left : lineAt (after g (call.mode i a) out) i .modes ≡ outcome m a .modes

@@ -12,7 +12,7 @@ use lib.Seq.{length-take-le}
 use Rattle.sending.specs.Sending.{heldCount}
 use Rattle.flow.specs.Flow.{Full, waiting}
 use Rattle.line.specs.Fit.{largest}
-use Rattle.line.specs.Line.{sendingOf}
+use Rattle.line.specs.Line.{isOpen, sendingOf}
 use Rattle.relay.specs.RelayTests.{reliable}
 use Rattle.relay.proofs.Lines.{channel-span}
 use Rattle.calls.specs.Call.{Call}
@@ -113,7 +113,7 @@ module _ {i j identifier kind : ℕ} {g h : Gateway} {p q : Past} (r : Run i j i
     can-finish a b = finishes k a b channel v
 
   -- no call is left out of a run: at the open line whatever is called leads on, if it keeps the line open and in modem relay and no packet breaks the proviso
-  pub every-call : p .opened ≡ true → (c : Call) (out : List ℕ) → lineAt (after g c out) i .opened ≡ true → (Relays g i → Relays (after g c out) i) → Provided i g p q out c
+  pub every-call : p .opened ≡ true → (c : Call) (out : List ℕ) → isOpen (lineAt (after g c out) i) ≡ true → (Relays g i → Relays (after g c out) i) → Provided i g p q out c
       → (p′ : Past) × Run i j identifier kind (after g c out) p′ h q
   every-call o c out still stays ok =
       let d = call-adds (k .mine) o q out c still ok in

@@ -21,7 +21,7 @@ use Rattle.flow.proofs.Keeps.{sending-ok, receiving-ok}
 use Rattle.flow.specs.Flow.{Message, Sends, Receives, Have, Flow, Data, Grows}
 use Rattle.owed.specs.Owed.{owedOf}
 use Rattle.line.specs.Fit.{largest, lineFits}
-use Rattle.line.specs.Line.{sendingOf, receivingOf}
+use Rattle.line.specs.Line.{isOpen, sendingOf, receivingOf}
 use Rattle.line.specs.Shape.{Shaped}
 use Rattle.line.specs.declared.Line.{Line}
 use Rattle.line.proofs.Keeps.{line-ok, sending-side, receiving-side}
@@ -129,7 +129,7 @@ pub wide : (channel : ℕ) → windowOf channel + bound ≤ modulus
 wide channel = pick-by (λ (w : ℕ). w + bound ≤ modulus) (eqb channel 1) (λ _. lit≤ tt) (λ _. lit≤ tt)
 
 -- in modem relay BOOK has them fit
-pub relay-sides : (l : Line) → lineFits l ≡ true → l .opened ≡ true → l .modes .local ≡ modem → Sides l
+pub relay-sides : (l : Line) → lineFits l ≡ true → isOpen l ≡ true → l .modes .local ≡ modem → Sides l
 relay-sides l fits opened inside =
     let k = line-ok l opened fits in record { sending = sending-side l k inside; receiving = receiving-side l k inside }
 

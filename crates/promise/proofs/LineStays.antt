@@ -30,7 +30,7 @@ use Rattle.book.proofs.Facts.{line-fits}
 use Rattle.calls.specs.Call.{Call}
 use Rattle.calls.specs.Call as call
 use Rattle.calls.specs.Order.{lineFor}
-use Rattle.calls.specs.Parts.{fitBook, lineNumber, isOpen}
+use Rattle.calls.specs.Parts.{fitBook, lineNumber, mustBeOpen}
 use Rattle.calls.specs.Result.{CallResult, resultWith, resultOf, effect}
 use Rattle.calls.proofs.Results.{moved-did}
 use Rattle.laws.proofs.Keeps.{every-call-keeps}
@@ -134,7 +134,7 @@ module _ {i identifier kind : ℕ} {g : Gateway} {p : Past} (s : Sound i identif
   its : resultOf c (g .book) (g .store) out ≡ resultWith (outcome (l .modes) a .said) (withLine (g .book) i then) (g .store) out
   its =
       sym (moved-did (g .book) i a refl
-      (passes (fitBook (g .book) ∷ lineNumber i ∷ isOpen l ∷ []) (s .fits, (le-leb i 3 (omega (arith, j .mine .small)), (is-open (s .phase) opened .opened, tt)))) (g .store) out)
+      (passes (fitBook (g .book) ∷ lineNumber i ∷ mustBeOpen l ∷ []) (s .fits, (le-leb i 3 (omega (arith, j .mine .small)), (is-open (s .phase) opened .opened, tt)))) (g .store) out)
 
   pub mode-line : lineAt h i ≡ then
   mode-line = ap (λ (d : CallResult). lineOf (d .book) i) its ∙ line-same (g .book) (s .shaped) i (j .mine .small) then

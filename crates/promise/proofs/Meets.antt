@@ -17,7 +17,7 @@ use Rattle.sending.specs.declared.Sending.{Sending}
 use Rattle.flow.specs.Flow.{Message}
 use Rattle.owed.specs.Owed.{member}
 use Rattle.line.specs.Fit.{largest, settingsFit}
-use Rattle.line.specs.Line.{closedLine, openedLine, sendingOf}
+use Rattle.line.specs.Line.{isOpen, closedLine, openedLine, sendingOf}
 use Rattle.line.specs.declared.Line.{Line}
 use Rattle.line.specs.declared.Settings.{Settings}
 use Rattle.mode.specs.Acts.{Act, outcome}
@@ -60,7 +60,7 @@ module _ (identifier kind : ℕ) (fitting : settingsFit identifier kind ≡ true
     may-open : Passes (freshWith store) (call.opening i settings 0) []
     unfolding tests openTests member openIn
     may-open =
-        let free : not (lineAt (freshWith store) i .opened) ≡ true = ap (λ (l : Line). not (l .opened)) (getD-alike 4 i closedLine) in
+        let free : not (isOpen (lineAt (freshWith store) i)) ≡ true = ap (λ (l : Line). not (isOpen l)) (getD-alike 4 i closedLine) in
         passes (fitBook freshBook ∷ lineNumber i ∷ openTests freshBook i settings) (fresh-fits, (le-leb i 3 (omega (arith, k .joined .mine .small)), (free, (fitting, (refl, tt)))))
 
     line : lineAt opened i ≡ openedLine settings 0

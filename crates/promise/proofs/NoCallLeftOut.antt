@@ -12,6 +12,7 @@ use Rattle.ground.specs.declared.Verdict.the-variants.{Pass}
 use Rattle.ground.proofs.Either.{by-test}
 use Rattle.ground.proofs.Picks.{clash}
 use Rattle.ground.proofs.Verdicts.{passed}
+use Rattle.line.specs.Line.{isOpen}
 use Rattle.line.specs.declared.Line.{Line}
 use Rattle.line.specs.declared.Settings.{Settings}
 use Rattle.mode.specs.Given.{modem}
@@ -29,7 +30,7 @@ use Rattle.promise.proofs.Phases.{Sound, is-open}
 use Rattle.promise.proofs.OwnLine.{Passes, call-passes, line-left}
 
 -- an open line is not opened, and a line that is closed is not open
-open-refused : (g : Gateway) (i : ℕ) (x : Settings) (time : ℕ) (out : List ℕ) → Passes g (call.opening i x time) out → lineAt g i .opened ≡ true → ⊥
+open-refused : (g : Gateway) (i : ℕ) (x : Settings) (time : ℕ) (out : List ℕ) → Passes g (call.opening i x time) out → isOpen (lineAt g i) ≡ true → ⊥
 unfolding tests openTests
 open-refused g i x time out e o =
     let t = passed (fitBook (g .book) ∷ lineNumber i ∷ openTests (g .book) i x) e in
@@ -46,13 +47,13 @@ module _ {i identifier kind : ℕ} {g : Gateway} {p : Past} (s : Sound i identif
   Then c = (p′ : Past) × Adds i g p q out c p′
 
   -- a call that is accepted on the line
-  own-adds : (c : Call) → lineFor c (g .book) ≡ i → accepts (does g c out) ≡ true → lineAt (after g c out) i .opened ≡ true → Provided i g p q out c → Then c
+  own-adds : (c : Call) → lineFor c (g .book) ≡ i → accepts (does g c out) ≡ true → isOpen (lineAt (after g c out) i) ≡ true → Provided i g p q out c → Then c
   unfolding lineFor effect tests
   own-adds (call.opening k x time) m e still ok =
       absurd (subst (λ (n : ℕ). accepts (does g (call.opening n x time) out) ≡ true → ⊥) (sym m)
       (λ a. open-refused g i x time out (call-passes g (call.opening i x time) out a) (is-open (s .phase) opened .opened)) e)
   own-adds (call.closing k) m e still ok =
-      clash (sym (ap (λ (l : Line). l .opened) (line-left s (call.closing k) out m (call-passes g (call.closing k) out e))) ∙ still)
+      clash (sym (ap isOpen (line-left s (call.closing k) out m (call-passes g (call.closing k) out e))) ∙ still)
   own-adds (call.mode k a) m e still ok = subst (λ (n : ℕ). Then (call.mode n a)) (sym m) (p, moded a)
   own-adds (call.taking k channel x) m e still ok =
       subst (λ (n : ℕ). accepts (does g (call.taking n channel x) out) ≡ true → Then (call.taking n channel x)) (sym m) (λ a. (tookPast p channel x, took channel x a)) e
@@ -72,7 +73,7 @@ module _ {i identifier kind : ℕ} {g : Gateway} {p : Past} (s : Sound i identif
       (λ a. (handedPast p channel (given (does g (call.handOut i channel) out)), handed channel a)) e
   own-adds (call.report k channel) m e still ok = subst (λ (n : ℕ). Then (call.report n channel)) (sym m) (p, reported channel)
 
-  pub call-adds : (c : Call) → lineAt (after g c out) i .opened ≡ true → Provided i g p q out c → Then c
+  pub call-adds : (c : Call) → isOpen (lineAt (after g c out) i) ≡ true → Provided i g p q out c → Then c
   call-adds c still ok = by-test (accepts (does g c out)) (λ e. go e (ℕ-discrete (lineFor c (g .book)) i)) (λ e. (p, refused c e))
     where
       go : accepts (does g c out) ≡ true → Dec (lineFor c (g .book) ≡ i) → Then c

@@ -35,7 +35,7 @@ use Rattle.flow.proofs.Messages.{message-in, message-full}
 use Rattle.flow.proofs.OneWay.{ranked-message}
 use Rattle.owed.proofs.Steps.{three-leave}
 use Rattle.line.specs.Fit.{largest}
-use Rattle.line.specs.Line.{sendingOf, receivingOf}
+use Rattle.line.specs.Line.{isOpen, sendingOf, receivingOf}
 use Rattle.line.specs.declared.Line.{Line}
 use Rattle.mode.specs.Given.{modem}
 use Rattle.store.specs.Store.{regionOf, octetsIn}
@@ -84,7 +84,7 @@ emptyBy e channel =
     }
 
 -- a packet that says what is true of its end may be written
-pub wrote-joined : {e f : End} (k : Packet) → e .line .opened ≡ true → e .line .modes .local ≡ modem → Says e k → Joined e f → Joined (afterWriting e k) f
+pub wrote-joined : {e f : End} (k : Packet) → isOpen (e .line) ≡ true → e .line .modes .local ≡ modem → Says e k → Joined e f → Joined (afterWriting e k) f
 unfolding wroteLine
 wrote-joined {e} k opened inside says j =
     let n = wrote-line-keeps (e .line) opened (j .mine .fits) inside (j .mine .shaped) in

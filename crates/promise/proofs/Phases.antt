@@ -8,7 +8,7 @@ use native.Mathlib.Omega.{arith}
 use lib.ListN.{length}
 use Rattle.ground.specs.Pick.{pick}
 use Rattle.ground.proofs.Picks.{clash}
-use Rattle.line.specs.Line.{closedLine}
+use Rattle.line.specs.Line.{isOpen, closedLine}
 use Rattle.line.specs.declared.Line.{Line}
 use Rattle.line.proofs.Keeps.{closed-fits}
 use Rattle.store.specs.declared.Way.{Way}
@@ -32,7 +32,7 @@ endOf g i p = record { line = lineIn g i p; i = i; store = g .store; past = p }
 
 -- the line was opened as the run says
 pub record Open (identifier kind : ℕ) (l : Line) : Type 0 where
-  pub opened : l .opened ≡ true
+  pub opened : isOpen l ≡ true
   pub named : l .identifier ≡ identifier
   pub typed : l .kind ≡ kind
 

@@ -27,7 +27,7 @@ use Rattle.flow.proofs.Moves.{handed-moves}
 use Rattle.flow.proofs.OneWay.{handed-flow, next-message}
 use Rattle.owed.specs.Owed.{owedOf}
 use Rattle.line.specs.Fit.{lineFits, largest}
-use Rattle.line.specs.Line.{sendingOf, receivingOf}
+use Rattle.line.specs.Line.{isOpen, sendingOf, receivingOf}
 use Rattle.line.specs.Shape.{Shaped}
 use Rattle.line.specs.declared.Line.{Line}
 use Rattle.mode.specs.Given.{modem}
@@ -58,7 +58,7 @@ module _ {e f : End} (j : Joined e f) (channel : ℕ) (l : Line) (store : List �
         past = record { opened = e .past .opened; taken = e .past .taken; handed = handed; wrote = e .past .wrote; owes = owes; came = came };
       }
 
-  pub receiving-joined : e .line .opened ≡ true → e .line .modes .local ≡ modem → SameSettings (e .line) l → (lineFits l ≡ true) × Shaped l → 42240 ≤ length store
+  pub receiving-joined : isOpen (e .line) ≡ true → e .line .modes .local ≡ modem → SameSettings (e .line) l → (lineFits l ≡ true) × Shaped l → 42240 ≤ length store
       → ((c : ℕ) → sendingOf l c ≡ sendingOf (e .line) c)
       → ((c : ℕ) → reliable c ≡ true → c ≢ channel → receivingOf l c ≡ receivingOf (e .line) c)
       → ((c : ℕ) → reliable c ≡ true → SameSlots (e .i) way.Sending c (e .store) store)

@@ -24,7 +24,7 @@ use Rattle.flow.proofs.Flows.{data-more}
 use Rattle.flow.proofs.OneWay.{took-flow}
 use Rattle.owed.specs.Owed.{owedOf}
 use Rattle.line.specs.Fit.{lineFits, largest}
-use Rattle.line.specs.Line.{sendingOf, receivingOf, withSending}
+use Rattle.line.specs.Line.{isOpen, sendingOf, receivingOf, withSending}
 use Rattle.line.specs.Shape.{Shaped}
 use Rattle.line.specs.declared.Line.{Line}
 use Rattle.line.proofs.Shape.{sending-long}
@@ -47,7 +47,7 @@ use Rattle.promise.proofs.Views.{SameSlots, sends-kept, receives-kept, 
 use Rattle.promise.proofs.Ends.{End, Joined, sent, got, sends-ok, gets-ok, wide, relay-sides, came-on, said-on, grows-none, flow-as}
 
 -- a relay call that is answered finds the line open and in modem relay
-pub asked-open : (l : Line) (channel : ℕ) → verdict (relayChannelTests l channel) ≡ Pass → (l .opened ≡ true) × (l .modes .local ≡ modem)
+pub asked-open : (l : Line) (channel : ℕ) → verdict (relayChannelTests l channel) ≡ Pass → (isOpen l ≡ true) × (l .modes .local ≡ modem)
 unfolding relayChannelTests
 asked-open l channel e = let t = passed (relayChannelTests l channel) e in (t .0, eqb-true _ _ (t .1 .0))
 
@@ -61,7 +61,7 @@ module _ {e f : End} (j : Joined e f) (channel : ℕ) (v : reliable channel ≡ 
         past = record { opened = e .past .opened; taken = taken; handed = e .past .handed; wrote = e .past .wrote; owes = e .past .owes; came = e .past .came };
       }
 
-  pub sending-joined : e .line .opened ≡ true → e .line .modes .local ≡ modem → (lineFits (now .line) ≡ true) × Shaped (now .line) → 42240 ≤ length store
+  pub sending-joined : isOpen (e .line) ≡ true → e .line .modes .local ≡ modem → (lineFits (now .line) ≡ true) × Shaped (now .line) → 42240 ≤ length store
       → ((c : ℕ) → reliable c ≡ true → SameSlots (e .i) way.Receiving c (e .store) store)
       → ((c : ℕ) → reliable c ≡ true → c ≢ channel → SameSlots (e .i) way.Sending c (e .store) store)
       → ((c n : ℕ) (x : Message) → Data (e .past .taken c) n x → Data (taken c) n x) → ((c : ℕ) → c ≢ channel → taken c ≡ e .past .taken c)

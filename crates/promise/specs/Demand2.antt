@@ -28,14 +28,14 @@ use Rattle.slip.specs.declared.Reading.the-variants as slipReading
 use Rattle.channel.specs.Channel.{modulus}
 use Rattle.sending.specs.Sending.{heldCount}
 use Rattle.sending.specs.declared.Held.{Held}
-use Rattle.mode.specs.Given.{modem}
+use Rattle.mode.specs.Given.{modem, hasLeft}
 use Rattle.mode.specs.Moved.{ended}
 use Rattle.mode.specs.Indication.{hearTests, heardMode}
 use Rattle.mode.specs.Request.{askTests}
 use Rattle.mode.specs.TableC2.{permitted}
 use Rattle.mode.specs.Acts.{Act, hear, ask, outcome}
 use Rattle.mode.specs.declared.Modes.{Modes}
-use Rattle.line.specs.Line.{sendingOf}
+use Rattle.line.specs.Line.{isOpen, sendingOf}
 use Rattle.line.specs.declared.Line.{Line}
 use Rattle.store.specs.Store.{regionOf, octetsIn}
 use Rattle.store.specs.declared.Way.the-variants as way
@@ -74,7 +74,7 @@ pub record Ready (g : Gateway) (i : ℕ) : Type 0 where
   pub shaped : BookShaped (g .book)
   pub long : 42240 ≤ length (g .store)
   pub small : i < 4
-  pub opened : lineAt g i .opened ≡ true
+  pub opened : isOpen (lineAt g i) ≡ true
 
 -- the message that a rank names, and its octets
 abbrev pub heldBy : Gateway → ℕ → ℕ → ℕ → Held
@@ -85,14 +85,14 @@ octetsBy g i channel m = octetsIn (g .store) (regionOf i way.Sending channel) (m
 
 -- the line is the packet's, and in modem relay
 pub record Entitled (l : Line) (s : List ℕ) : Type 0 where
-  pub opened : l .opened ≡ true
+  pub opened : isOpen l ≡ true
   pub inside : l .modes .local ≡ modem
   pub named : l .identifier ≡ headAt s .identifier
   pub typed : l .kind ≡ headAt s .kind
 
 -- modem relay was left for good
 abbrev pub Gone : Modes → Type 0
-Gone m = (m .left ≡ true) × (m .local ≡ modem → ⊥)
+Gone m = (hasLeft m ≡ true) × (m .local ≡ modem → ⊥)
 
 pub record Demand2 (b : Build) : Type 0 where
   -- every body that may be written is, and reads back; every body that may be read says what stands at its places

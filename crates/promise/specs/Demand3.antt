@@ -10,6 +10,7 @@ use Rattle.channel.specs.Channel.{windowOf, cap}
 use Rattle.flow.specs.Flow.{Message, Full}
 use Rattle.mode.specs.Given.{modem}
 use Rattle.mode.specs.Acts.{ask}
+use Rattle.line.specs.Line.{isOpen}
 use Rattle.line.specs.Fit.{largest, settingsFit}
 use Rattle.line.specs.declared.Settings.{Settings}
 use Rattle.relay.specs.RelayTests.{reliable}
@@ -24,7 +25,7 @@ use Rattle.promise.specs.Promise.{sendsBy, receivesBy, Promised, InRelay
 -- the call is accepted, and leaves line i open and in modem relay
 pub record Serves (f : Does) (g : Gateway) (i : ℕ) (c : Call) (out : List ℕ) : Type 0 where
   pub accepted : accepts (does f g c out) ≡ true
-  pub opened : lineAt (after f g c out) i .opened ≡ true
+  pub opened : isOpen (lineAt (after f g c out) i) ≡ true
   pub inside : Relays (after f g c out) i
 
 -- a fresh gateway opens the line, and a request brings it into modem relay

@@ -9,7 +9,7 @@ use lib.ListN.{length, take, getD}
 use Rattle.ground.specs.Pick.{pick}
 use Rattle.mode.specs.Given.{modem}
 use Rattle.mode.specs.Acts.{Act}
-use Rattle.line.specs.Line.{receivingOf}
+use Rattle.line.specs.Line.{isOpen, receivingOf}
 use Rattle.line.specs.declared.Line.{Line}
 use Rattle.line.specs.declared.Settings.{Settings}
 use Rattle.writing.specs.Send.{ranked, heldIn}
@@ -131,7 +131,7 @@ module _ (f : Does) where
     opens : p .opened ≡ false → (s : Settings) (time : ℕ) (out : List ℕ) → s .identifier ≡ identifier → s .kind ≡ kind
         → accepts (does g (call.opening i s time) out) ≡ true → Step i identifier kind q g p (after g (call.opening i s time) out) justOpened
     -- "keep it open and each stay in modem relay once there"
-    calls : p .opened ≡ true → (c : Call) (out : List ℕ) → lineAt (after g c out) i .opened ≡ true → (Relays g i → Relays (after g c out) i)
+    calls : p .opened ≡ true → (c : Call) (out : List ℕ) → isOpen (lineAt (after g c out) i) ≡ true → (Relays g i → Relays (after g c out) i)
         → {p′ : Past} → Adds i g p q out c p′ → Step i identifier kind q g p (after g c out) p′
 
   -- Steps of the two from where they are, in any order: line i of the one, line j of the other.

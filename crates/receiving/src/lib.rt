@@ -15,6 +15,7 @@ use ground::Refusal;
 use ground::Verdict;
 use places::Places;
 
+#[repr(C)]
 pub struct Receiving {
     // R: the next message to hand out, and how many were handed out. At most 16,777,215.
     pub next: u32,

@@ -23,6 +23,7 @@ use Rattle.mode.specs.Given.{modem}
 use Rattle.mode.specs.Moved.{channelsFor, timed, moved}
 use Rattle.mode.specs.Request.{askStep}
 use Rattle.mode.specs.Acts.{ask}
+use Rattle.line.specs.Line.{isOpen}
 use Rattle.line.specs.Fit.{lineFits}
 use Rattle.line.specs.Mode.{steppedTo}
 use Rattle.line.specs.declared.Settings.{Settings}
@@ -52,7 +53,7 @@ named identifier = record { identifier = identifier; kind = 98; vbd = true; rela
 abbrev called : List Turn → Gateway
 called ts = let t = reach freshBook zeros ts in record { book = t .book; store = t .store }
 
-ready : (ts : List Turn) → lineAt (called ts) 0 .opened ≡ true → 42240 ≤ length (called ts .store) → Ready (called ts) 0
+ready : (ts : List Turn) → isOpen (lineAt (called ts) 0) ≡ true → 42240 ≤ length (called ts .store) → Ready (called ts) 0
 ready ts e l = let k = reached-passes ts zeros in record { fits = k .0; shaped = k .1; long = l; small = lit< tt; opened = e }
 
 abbrev turn : Call → Turn

@@ -31,7 +31,7 @@ use Rattle.mode.specs.Moved.{channelsFor, timed, moved}
 use Rattle.mode.specs.Request.{askStep}
 use Rattle.mode.specs.Acts.{ask}
 use Rattle.line.specs.Fit.{largest, lineFits}
-use Rattle.line.specs.Line.{closedLine}
+use Rattle.line.specs.Line.{isOpen, closedLine}
 use Rattle.line.specs.Mode.{steppedTo}
 use Rattle.line.specs.declared.Line.{Line}
 use Rattle.store.specs.declared.Way.the-variants as way
@@ -133,8 +133,8 @@ module _ {test : ℕ → ℕ → Bool} {k : ℕ} (few : k ≤ 16384) (a : At tes
   let-in : Serves resultOf h 0 comes []
   let-in = served yours .arrives s (rounds.packet few a) (rounds.honest few a) [] .1
 
-  opened : lineAt h′ 0 .opened ≡ true
-  opened = ap (λ (l : Line). l .opened) line ∙ let-in .opened
+  opened : isOpen (lineAt h′ 0) ≡ true
+  opened = ap isOpen line ∙ let-in .opened
 
   within : lineAt h′ 0 .modes .local ≡ modem
   within = ap (λ (l : Line). l .modes .local) line ∙ let-in .inside
@@ -143,7 +143,7 @@ module _ {test : ℕ → ℕ → Bool} {k : ℕ} (few : k ≤ 16384) (a : At tes
   gone =
       let step : Step (f test) 0 5 98 (rounds.p₂ few a) h (a .q) h′ q′
       = subst (λ (d : CallResult). Step (f test) 0 5 98 (rounds.p₂ few a) h (a .q) (record { book = d .book; store = d .store }) q′) leaves
-      (calls (yours .mine .0) comes [] (subst (λ (d : CallResult). lineOf (d .book) 0 .opened ≡ true) (sym leaves) opened)
+      (calls (yours .mine .0) comes [] (subst (λ (d : CallResult). isOpen (lineOf (d .book) 0) ≡ true) (sym leaves) opened)
       (λ _. subst (λ (d : CallResult). lineOf (d .book) 0 .modes .local ≡ modem) (sym leaves) within)
       (heard s (rounds.packet few a) (rounds.here few a) (yours .mine .1) (rounds.honest few a))) in
       turned-run (goes-on (yours .sized) step)

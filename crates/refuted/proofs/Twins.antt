@@ -8,7 +8,7 @@ use mathlib.Core.List.{List}
 use lib.Dec.{lit<}
 use lib.ListN.{length}
 use Rattle.ground.specs.Pick.{pick}
-use Rattle.line.specs.Line.{closedLine}
+use Rattle.line.specs.Line.{isOpen, closedLine}
 use Rattle.book.specs.Book.{lineOf}
 use Rattle.calls.specs.Call.{Call}
 use Rattle.calls.specs.Result.{CallResult, resultOf}
@@ -51,7 +51,7 @@ module _ {test : ℕ → ℕ → Bool} {g h : Gateway} {p q : Past} (t : Twin te
   alike c out {p′} o s same a b =
       let step : Step (f test) 0 5 98 q g p (after resultOf g c out) p′
       = subst (λ (d : CallResult). Step (f test) 0 5 98 q g p (record { book = d .book; store = d .store }) p′) same
-      (calls (t .mine .0) c out (subst (λ (d : CallResult). lineOf (d .book) 0 .opened ≡ true) (sym same) (s .opened))
+      (calls (t .mine .0) c out (subst (λ (d : CallResult). isOpen (lineOf (d .book) 0) ≡ true) (sym same) (s .opened))
       (λ _. subst (λ (d : CallResult). lineOf (d .book) 0 .modes .local ≡ 3) (sym same) (s .inside)) b) in
       record { ours = goes-on (t .ours) (calls (t .mine .0) c out (s .opened) (λ _. s .inside) a); sized = goes-on (t .sized) step; mine = (o, s .inside); yours = t .yours }
 

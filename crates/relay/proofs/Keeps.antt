@@ -15,7 +15,7 @@ use Rattle.receiving.specs.Receiving.{handedOut}
 use Rattle.receiving.specs.declared.Receiving.{Receiving}
 use Rattle.sending.specs.declared.Sending.{Sending}
 use Rattle.flow.proofs.Keeps.{took-keeps, handed-keeps}
-use Rattle.line.specs.Line.{sendingOf, receivingOf, withSides, withSending, withReceiving}
+use Rattle.line.specs.Line.{isOpen, sendingOf, receivingOf, withSides, withSending, withReceiving}
 use Rattle.line.specs.Fit.{largest, lineFits}
 use Rattle.line.specs.Shape.{Shaped}
 use Rattle.line.specs.declared.Line.{Line}
@@ -27,7 +27,7 @@ use Rattle.relay.proofs.Lines.{ok, inside, take-asked, take-fits, take-
 
 -- whether a line is open, what opening named and its modes are the same of both
 pub record SameSettings (l k : Line) : Type 0 where
-  pub opened : k .opened ≡ l .opened
+  pub opened : isOpen k ≡ isOpen l
   pub identifier : k .identifier ≡ l .identifier
   pub kind : k .kind ≡ l .kind
   pub modes : k .modes ≡ l .modes

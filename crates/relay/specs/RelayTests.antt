@@ -7,6 +7,7 @@ use lib.Dec.{eqb}
 use Rattle.ground.specs.Refusal.{Test, must}
 use Rattle.ground.specs.declared.Refusal.the-variants.{NOLINE, MODE, CHANNEL}
 use Rattle.mode.specs.Given.{modem}
+use Rattle.line.specs.Line.{isOpen}
 use Rattle.line.specs.declared.Line.{Line}
 
 -- "relay call .. outside m" (RULES 13.5)
@@ -15,7 +16,7 @@ inRelay l = eqb (l .modes .local) modem
 
 -- a call on a line's channels asks "NOLINE, MODE" first (RULES 14.3 to RULES 14.7)
 abbrev pub relayLineTests : Line → List Test
-relayLineTests l = must (l .opened) NOLINE ∷ must (inRelay l) MODE ∷ []
+relayLineTests l = must (isOpen l) NOLINE ∷ must (inRelay l) MODE ∷ []
 
 -- "message call not naming 1 or 2" (RULES 13.6)
 abbrev pub reliable : ℕ → Bool

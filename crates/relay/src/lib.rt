@@ -27,7 +27,7 @@ use store::Way;
 pub fn line_verdict(l: Line) -> Verdict
     ensures { λ r. ⌜ r ≡ verdict (relayLineTests l) ⌝ }
 {
-    if !l.opened {
+    if l.opened != Line::OPEN {
         return Verdict::Refuse(Refusal::NOLINE);
     }
     if l.modes.local == Modes::MODEM {

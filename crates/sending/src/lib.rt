@@ -16,6 +16,7 @@ use ground::Verdict;
 use places::Place;
 use places::Places;
 
+#[repr(C)]
 pub struct Sending {
     // S: how many messages were taken. At most 16,777,215.
     pub taken: u32,

@@ -4,6 +4,7 @@ use mathlib.Core.Path.{_≡_, refl}
 use mathlib.Core.Bool.{true}
 use Rattle.mode.specs.Given.{modem}
 use Rattle.owed.proofs.Steps.{leave-keeps}
+use Rattle.line.specs.Line.{isOpen}
 use Rattle.line.specs.Fit.{lineFits}
 use Rattle.line.specs.Shape.{Shaped}
 use Rattle.line.specs.declared.Line.{Line}
@@ -16,12 +17,13 @@ unfolding wroteLine
 wrote-line-same l = record { opened = refl; identifier = refl; kind = refl; modes = refl }
 
 -- in modem relay what BOOK asks is kept, and so are the lengths of the line's arrays
-pub wrote-line-keeps : (l : Line) → l .opened ≡ true → lineFits l ≡ true → l .modes .local ≡ modem → Shaped l
+pub wrote-line-keeps : (l : Line) → isOpen l ≡ true → lineFits l ≡ true → l .modes .local ≡ modem → Shaped l
     → (lineFits (wroteLine l) ≡ true) × Shaped (wroteLine l)
 unfolding wroteLine
 wrote-line-keeps l opened fits inside shaped =
     let k = line-ok l opened fits in (
       ok-line (wroteLine l) (record {
+        flag = k .flag;
         settings = k .settings;
         modes = k .modes;
         sending1 = k .sending1;

@@ -59,7 +59,7 @@ pub fn pick_record(pen: &mut Pen, end: End, care: u64) -> u8 {
     let in_relay: Vec<u8> = (0..4)
         .filter(|&line| {
             let record = pen.line(end, line);
-            record.opened && record.modes.local == Mode::Relay
+            record.is_open() && record.modes.local == Mode::Relay
         })
         .collect();
     match pen.random.chance(care) && !in_relay.is_empty() {
@@ -199,7 +199,9 @@ fn mode_call(pen: &mut Pen, end: End, care: u64) -> String {
 }
 
 fn open(pen: &mut Pen, end: End, care: u64) -> String {
-    let closed: Vec<u8> = (0..4).filter(|&line| !pen.line(end, line).opened).collect();
+    let closed: Vec<u8> = (0..4)
+        .filter(|&line| !pen.line(end, line).is_open())
+        .collect();
     let line = match pen.random.chance(care) && !closed.is_empty() {
         true => pen.random.pick(&closed),
         false => pick_line(pen, end, 0),

@@ -12,7 +12,7 @@ pub struct Fault {
     pub mends: Vec<String>,
 }
 
-/// Where a fault is made: one open line.
+/// Where a fault is made: one line.
 struct Spot {
     end: End,
     line: u8,
@@ -46,14 +46,14 @@ impl Spot {
     }
 }
 
-/// A fault at one of the gateway's open lines, or among the resting identifiers.
+/// A fault at one of the gateway's open lines, in the flag of a closed one, or among the resting identifiers.
 pub fn any_fault(pen: &mut Pen, end: End) -> Fault {
-    let open: Vec<u8> = (0..4).filter(|&line| pen.line(end, line).opened).collect();
     for _ in 0..20 {
-        let line = pen.random.pick(&[open.as_slice(), &[4]].concat());
+        let line = pen.random.below(5) as u8;
         let fault = match line {
             4 => resting(pen, end),
-            line => line_fault(pen, &Spot { end, line }),
+            line if pen.line(end, line).is_open() => line_fault(pen, &Spot { end, line }),
+            line => opened(pen, &Spot { end, line }),
         };
         if let Some(fault) = fault {
             return fault;
@@ -63,7 +63,7 @@ pub fn any_fault(pen: &mut Pen, end: End) -> Fault {
 }
 
 fn line_fault(pen: &mut Pen, spot: &Spot) -> Option<Fault> {
-    match pen.random.below(11) {
+    match pen.random.below(12) {
         0 => settings(pen, spot),
         1 => identifier_twice(pen, spot),
         2 => mode(pen, spot),
@@ -74,6 +74,7 @@ fn line_fault(pen: &mut Pen, spot: &Spot) -> Option<Fault> {
         7 => places(pen, spot),
         8 => sizes(pen, spot),
         9 => owed(pen, spot),
+        10 => flag(pen, spot),
         _ => outside_relay(pen, spot),
     }
 }
@@ -87,11 +88,34 @@ fn settings(pen: &mut Pen, spot: &Spot) -> Option<Fault> {
     }
 }
 
+/// A number that is neither yes nor no.
+fn neither(pen: &mut Pen) -> u8 {
+    pen.random.pick(&[2, 3, 127, 128, 254, 255])
+}
+
+/// A flag of the record, the line's own among them, that is neither 0 nor 1.
+fn flag(pen: &mut Pen, spot: &Spot) -> Option<Fault> {
+    let modes = spot.record(pen).modes.clone();
+    let wrong = neither(pen);
+    match pen.random.below(4) {
+        0 => spot.one("vbd", wrong, modes.vbd.0),
+        1 => spot.one("relay", wrong, modes.relay.0),
+        2 => spot.one("left", wrong, modes.left.0),
+        _ => opened(pen, spot),
+    }
+}
+
+/// Whether the line is open is neither yes nor no: then it is not open, and the book is not in order.
+fn opened(pen: &mut Pen, spot: &Spot) -> Option<Fault> {
+    let present = spot.record(pen).opened.0;
+    spot.one("opened", neither(pen), present)
+}
+
 fn identifier_twice(pen: &mut Pen, spot: &Spot) -> Option<Fault> {
     let gateway = pen.gateway(spot.end);
     let mut others: Vec<u8> = gateway.resting.identifiers().collect();
     for (index, line) in gateway.lines.iter().enumerate() {
-        if line.opened && index != usize::from(spot.line) {
+        if line.is_open() && index != usize::from(spot.line) {
             others.push(line.identifier);
         }
     }
@@ -126,8 +150,8 @@ fn not_offered(pen: &mut Pen, spot: &Spot) -> Option<Fault> {
         Mode::Vbd => spot.one("vbd", 0, 1),
         Mode::Relay => spot.one("relay", 0, 1),
         _ if modes.recovery != Recovery::None => None,
-        _ if !modes.vbd => spot.one("local", "v", modes.local.name()),
-        _ if !modes.relay => spot.one("local", "m", modes.local.name()),
+        _ if !modes.vbd.is_set() => spot.one("local", "v", modes.local.name()),
+        _ if !modes.relay.is_set() => spot.one("local", "m", modes.local.name()),
         _ => None,
     }
 }
@@ -136,7 +160,7 @@ fn not_offered(pen: &mut Pen, spot: &Spot) -> Option<Fault> {
 fn tries(pen: &mut Pen, spot: &Spot) -> Option<Fault> {
     let modes = spot.record(pen).modes.clone();
     let number = pen.random.between(1, 6);
-    let offered = [(modes.vbd, "v"), (modes.relay, "m")];
+    let offered = [(modes.vbd.is_set(), "v"), (modes.relay.is_set(), "m")];
     if modes.local != Mode::Audio && modes.recovery == Recovery::None {
         return spot.fault(
             &["tried 0".into(), format!("try {number}")],
@@ -328,7 +352,7 @@ fn resting(pen: &mut Pen, end: End) -> Option<Fault> {
         gateway
             .lines
             .iter()
-            .filter(|line| line.opened)
+            .filter(|line| line.is_open())
             .map(|line| line.identifier),
     );
     let count = identifiers.len() as u64;

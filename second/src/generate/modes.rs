@@ -10,7 +10,7 @@ pub fn episode(pen: &mut Pen) {
     pen.say(format!("{end} fresh"));
     while pen.more() {
         let line = pen.random.below(4) as u8;
-        if !pen.line(end, line).opened {
+        if !pen.line(end, line).is_open() {
             open(pen, end, line);
         }
         let ended = pen.line(end, line).modes.recovery == Recovery::Ended;

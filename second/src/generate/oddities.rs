@@ -12,7 +12,7 @@ struct Spot {
 
 impl Spot {
     fn open(pen: &mut Pen, end: End, line: u8) -> Spot {
-        if pen.line(end, line).opened {
+        if pen.line(end, line).is_open() {
             pen.say(format!("{end} close {line}"));
         }
         let identifier = free_identifier(pen, &[end]);

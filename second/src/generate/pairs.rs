@@ -84,7 +84,7 @@ fn is_taken(pen: &Pen, end: End, identifier: u8) -> bool {
     let open = gateway
         .lines
         .iter()
-        .any(|line| line.opened && line.identifier == identifier);
+        .any(|line| line.is_open() && line.identifier == identifier);
     open || gateway
         .resting
         .identifiers()

@@ -26,7 +26,9 @@ pub fn episode(pen: &mut Pen) {
 /// One gateway with a line in modem relay, one in audio, one closed, and one that recovers or has ended.
 pub fn set_stage(pen: &mut Pen, end: End) {
     open_pairs(pen, 1);
-    let relay_line = (0..4).find(|&line| pen.line(end, line).opened).unwrap_or(0);
+    let relay_line = (0..4)
+        .find(|&line| pen.line(end, line).is_open())
+        .unwrap_or(0);
     let others: Vec<u8> = (0..4).filter(|&line| line != relay_line).collect();
     open_audio(pen, end, others[0]);
     open_recovering(pen, end, others[1]);

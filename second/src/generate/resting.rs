@@ -17,7 +17,7 @@ pub fn episode(pen: &mut Pen) {
 /// One identifier closes, then 15 others: it still rests. One more, and it is free.
 fn wait_for_one(pen: &mut Pen, end: End) {
     let line = pen.random.below(4) as u8;
-    if pen.line(end, line).opened {
+    if pen.line(end, line).is_open() {
         pen.say(format!("{end} close {line}"));
     }
     let identifier = cycle(pen, end, line);

@@ -217,9 +217,16 @@ fn set_settings(pen: &mut Pen, end: End, line: u8) {
 fn reopen(pen: &mut Pen, end: End, line: u8) {
     pen.say(format!("{end} spoil {line} opened 0"));
     any_call(pen, end, 90);
-    let part = pen
-        .random
-        .pick(&["try 9", "owing 200", "taken 1 99", "local 77", "type 1"]);
+    let part = pen.random.pick(&[
+        "try 9",
+        "owing 200",
+        "taken 1 99",
+        "local 77",
+        "type 1",
+        "vbd 2",
+        "relay 255",
+        "left 3",
+    ]);
     if pen.random.chance(50) {
         pen.say(format!("{end} spoil {line} {part}"));
         let identifier = free_identifier(pen, &[end]);

@@ -221,6 +221,29 @@ fn spoils_keep_what_is_past_the_count() {
 }
 
 #[test]
+fn flags_are_0_or_1() {
+    holds(
+        "A open 0 5 98 1 1 0
+         A spoil 0 vbd 2
+         A held 0 1 => no 18 BOOK
+         A spoil 0 vbd 0
+         A held 0 1 => no 5 MODE
+         A spoil 0 left 255
+         A held 0 1 => no 18 BOOK
+         A spoil 0 left 1
+         A ask 0 m 0 => no 5 MODE
+         A spoil 0 opened 2
+         A held 0 1 => no 18 BOOK
+         A spoil 0 opened 1
+         A spoil 3 opened 2
+         A held 0 1 => no 18 BOOK
+         A spoil 3 opened 0
+         A held 0 1 => no 5 MODE
+         A spoil 3 opened 256 => ? 17",
+    );
+}
+
+#[test]
 fn closed_records_are_not_read() {
     holds(
         "A spoil 0 local 77

@@ -1,15 +1,15 @@
-use borrow.Author.Tests.{eq-eqb, ne-eqb, not-true, not-false}
+use borrow.Author.Tests.{eq-eqb, ne-eqb}
 use Rattle.relay.proofs.line_verdict.Statement.{statement}
 use Rattle.relay.proofs.line_verdict.Tie as tie
 
 returns : tie.Need-returns
-returns c = simp (not-true (c .before .before .args .l .opened) (c .if1 .taken))
+returns c = simp (ne-eqb _ _ (c .if1 .taken))
 
 returns-2 : tie.Need-returns-2
-returns-2 c = simp (not-false (c .before .before .before .before .args .l .opened) (c .before .before .if1 .left), eq-eqb _ _ (c .if2 .taken))
+returns-2 c = simp (eq-eqb _ _ (c .before .before .if1 .left), eq-eqb _ _ (c .if2 .taken))
 
 returns-3 : tie.Need-returns-3
-returns-3 c = simp (not-false (c .before .before .before .before .args .l .opened) (c .before .before .if1 .left), ne-eqb _ _ (c .if2 .left))
+returns-3 c = simp (eq-eqb _ _ (c .before .before .if1 .left), ne-eqb _ _ (c .if2 .left))
 
 pub line-verdict-spec : {M : Type 1} → statement M
 line-verdict-spec = tie.close (tie.spec returns returns-2 returns-3)

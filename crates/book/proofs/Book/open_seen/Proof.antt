@@ -9,6 +9,7 @@ use mathlib.Core.Logic.{⊎-elim}
 use Prim.Native.Nat.{_≤_, _-_, _+_}
 use native.Mathlib.Omega.{arith}
 use borrow.Author.Needs.{needs}
+use borrow.Author.Tests.{eq-eqb, ne-eqb}
 use Rattle.book.proofs.Book.open_seen.Statement.{statement}
 use Rattle.book.proofs.Book.open_seen.Tie as tie
 
@@ -40,20 +41,20 @@ cast-identifier : tie.Need-cast-identifier Inv-loop μ-loop
 cast-identifier c =
     let s = c .before .before .before in
     let len = four-lines s in
-    let h = open-at (s .args .t1 .lines) (s .pre) (c .before .before .loop .i) _ (omega arith) (c .if1 .taken) in
+    let h = open-at (s .args .t1 .lines) (s .pre) (c .before .before .loop .i) _ (omega arith) (eq-eqb _ _ (c .if1 .taken)) in
     omega arith
 
 array-read-once : tie.Need-array-read-once Inv-loop μ-loop
 array-read-once c =
     let s = c .before .before .before in
     let len = four-lines s in
-    open-at (s .args .t1 .lines) (s .pre) (c .before .before .loop .i) _ (omega arith) (c .if1 .taken)
+    open-at (s .args .t1 .lines) (s .pre) (c .before .before .loop .i) _ (omega arith) (eq-eqb _ _ (c .if1 .taken))
 
 array-write-marks : tie.Need-array-write-marks Inv-loop μ-loop
 array-write-marks c =
     let s = c .before .before .before in
     let len = four-lines s in
-    open-at (s .args .t1 .lines) (s .pre) (c .before .before .loop .i) _ (omega arith) (c .if1 .taken)
+    open-at (s .args .t1 .lines) (s .pre) (c .before .before .loop .i) _ (omega arith) (eq-eqb _ _ (c .if1 .taken))
 
 add-i : tie.Need-add-i Inv-loop μ-loop
 add-i c = omega arith
@@ -72,8 +73,8 @@ loop-again c =
     let len = four-lines s in (
       omega arith,
       ⊎-elim
-          (λ w. rw (w .1, w .2) (comes-one (l .once) (l .marks) t n _ rest (rw (open-here ls (l .i) _ (omega arith) (w .0 .taken)) at (l .inv .1))))
-          (λ w. rw (w .1, w .2) (rw (open-on ls (l .i) _ (omega arith) (w .0 .left)) at (l .inv .1)))
+          (λ w. rw (w .1, w .2) (comes-one (l .once) (l .marks) t n _ rest (rw (open-here ls (l .i) _ (omega arith) (eq-eqb _ _ (w .0 .taken))) at (l .inv .1))))
+          (λ w. rw (w .1, w .2) (rw (open-on ls (l .i) _ (omega arith) (ne-eqb _ _ (w .0 .left))) at (l .inv .1)))
           (c .if1 .came),
     )
 

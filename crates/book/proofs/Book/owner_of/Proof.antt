@@ -32,8 +32,8 @@ mul-if1-2 c = omega arith
 element-copy-out-if1-2 : tie.Need-element-copy-out-if1-2 Inv-loop μ-loop
 element-copy-out-if1-2 c = omega arith
 
-cast-t15 : tie.Need-cast-t15 Inv-loop μ-loop
-cast-t15 c = omega arith
+cast-t16 : tie.Need-cast-t16 Inv-loop μ-loop
+cast-t16 c = omega arith
 
 returns : tie.Need-returns Inv-loop μ-loop
 returns c =
@@ -73,7 +73,7 @@ owner-of-spec =
     element-copy-out-if1
     mul-if1-2
     element-copy-out-if1-2
-    cast-t15
+    cast-t16
     returns
     add-i
     loop-less

@@ -1,4 +1,3 @@
-use mathlib.Core.Bool.{false}
 use borrow.Author.Needs.{needs}
 use Rattle.line.proofs.Line.closed.Statement.{statement}
 use Rattle.line.proofs.Line.closed.Tie as tie
@@ -17,7 +16,7 @@ fresh-requires-3 c κs = search needs
 
 returns : tie.Need-returns
 returns c =
-    λ i. record { opened = false; identifier = 0; kind = 0; modes = c .before .before .before .closed .ensures i; sending1 = c .before .before .fresh .ensures i; sending2 = c .before .before .fresh .ensures i; receiving1 = c .before .fresh2 .ensures i; receiving2 = c .before .fresh2 .ensures i; owed = c .fresh3 .ensures i }
+    λ i. record { opened = 0; identifier = 0; kind = 0; modes = c .before .before .before .closed .ensures i; sending1 = c .before .before .fresh .ensures i; sending2 = c .before .before .fresh .ensures i; receiving1 = c .before .fresh2 .ensures i; receiving2 = c .before .fresh2 .ensures i; owed = c .fresh3 .ensures i }
 
 pub closed-spec : {M : Type 1} → statement M
 closed-spec =

@@ -1,6 +1,6 @@
 use mathlib.Core.Bool.{_&&_, _||_}
 use lib.Dec.{eqb}
-use borrow.Author.Tests.{not-true, not-false}
+use borrow.Author.Tests.{eq-eqb, ne-eqb}
 use Rattle.mode.specs.Given.{modem}
 use Rattle.line.specs.Fit.{lineFits}
 use borrow.Author.Needs.{needs}
@@ -9,7 +9,7 @@ use Rattle.line.proofs.Line.fits.Tie as tie
 
 returns : tie.Need-returns
 unfolding lineFits
-returns c = simp (not-true (c .before .before .args .self .opened) (c .if1 .taken))
+returns c = simp (ne-eqb _ _ (c .before .if1 .taken))
 
 settings-fit-requires : tie.Need-settings-fit-requires
 settings-fit-requires c κs = search needs
@@ -39,7 +39,7 @@ returns-2 : tie.Need-returns-2
 unfolding lineFits
 returns-2 c =
     let l = c .before .before .before .before .before .before .before .before .before .before .before .args .self in
-    simp (not-false (l .opened) (c .before .before .before .before .before .before .before .before .before .if1 .left))
+    simp (eq-eqb _ _ (c .before .before .before .before .before .before .before .before .before .if1 .left))
     (λ i. c .before .before .before .before .before .before .before .before .settings-fit .ensures i && c .before .before .before .before .before .before .before .fits2 .ensures i && c .before .before .before .before .before .before .fits3 .ensures i && c .before .before .before .before .before .fits4 .ensures i && c .before .before .before .before .fits5 .ensures i && c .before .before .before .fits6 .ensures i && c .before .before .fits7 .ensures i && (eqb (l .modes .local) modem || c .before .idle .ensures i))
 
 pub fits-spec : {M : Type 1} → statement M
