@@ -18,19 +18,19 @@ use Rattle.ground.proofs.Verdicts.{Holds, passed, passes, verdict-on, verdict-s
 use Rattle.ground.proofs.Picks.{pick-by, each}
 use Rattle.field.proofs.Laws.{bits-lt}
 use Rattle.packet.specs.declared.Acks.{Acks}
+use Rattle.packet.specs.declared.AcksReading.{AcksReading}
 use Rattle.packet.specs.declared.AcksReading.the-variants as acks
-use Rattle.packet.specs.declared.HeadReading.the-variants as head
 use Rattle.packet.specs.Acks.{ackList, acksServed}
-use Rattle.packet.specs.Read.{channelAt, headerLength, numberAt, headAt, acksAt, payloadOf, sizeFits, payloadFits, headTests, listTests, headRead, acksRead}
-use Rattle.packet.specs.declared.Head.{Head}
+use Rattle.packet.specs.Read.{channelAt, headerLength, numberAt, headAt, acksAt, payloadOf, sizeFits, payloadFits, listTests, acksRead}
 use Rattle.mode.specs.Given.{modem}
 use Rattle.line.specs.Line.{isOpen}
-use Rattle.line.specs.Fit.{largest, lineFits}
+use Rattle.line.specs.Fit.{lineFits}
+use Rattle.line.specs.Figures.{receiveLargest}
 use Rattle.line.specs.declared.Line.{Line}
 use Rattle.relay.specs.RelayTests.{reliable}
-use Rattle.arriving.proofs.Stays.{news-store}
-use Rattle.arriving.specs.Effect.{Relaying, heardLine, storedLine, storedStore}
-use Rattle.arriving.specs.Arrive.{arriveTests, newsLine, arrivedLine, arrivedStore}
+use Rattle.arriving.proofs.Stays.{news-part}
+use Rattle.arriving.specs.Effect.{Relaying, heardLine, storedLine, storedPart}
+use Rattle.arriving.specs.Arrive.{arriveTests, newsLine, arrivedLine, arrivedPart}
 use Rattle.arriving.proofs.Effects.{heard-relaying, all-relaying}
 
 pub news-relaying : (l : Line) → Relaying l → (s : List ℕ) → Relaying (newsLine l s)
@@ -53,26 +53,11 @@ module _ (s : List ℕ) where
       go Pass e = refl
       go (Refuse q) e = absurd (let z : _≡_ {A = ℕ} 0 1 = cc in omega arith)
 
-  -- where the tests pass, each reading is what the octets say
-  module _ (e : verdict (headTests s) ≡ Pass) where
-    head-passed : headRead s ≡ head.Says (headAt s)
-    head-passed = ap (λ (v : Verdict). settle v head.Refused (head.Says (headAt s))) e
-
-    pub head-is : {h : Head} → headRead s ≡ head.Says h → h ≡ headAt s
-    head-is {h} p = let q : head.Says h ≡ head.Says (headAt s) = sym p ∙ head-passed in cc
-
-    pub head-there : {r : Refusal} → headRead s ≡ head.Refused r → ⊥
-    head-there p = let z : _≡_ {A = ℕ} 0 1 = let q = head-passed in cc in omega arith
-
-  module _ (e : verdict (listTests s) ≡ Pass) where
-    list-passed : acksRead s ≡ acks.Says (acksAt s)
-    list-passed = ap (λ (v : Verdict). settle v acks.Refused (acks.Says (acksAt s))) e
-
-    pub list-is : {a : Acks} → acksRead s ≡ acks.Says a → a ≡ acksAt s
-    list-is {a} p = let q : acks.Says a ≡ acks.Says (acksAt s) = sym p ∙ list-passed in cc
-
-    pub list-there : {r : Refusal} → acksRead s ≡ acks.Refused r → ⊥
-    list-there p = let z : _≡_ {A = ℕ} 0 1 = let q = list-passed in cc in omega arith
+  -- a list that is read is what the octets say
+  pub list-is : {a : Acks} → acksRead s ≡ acks.Says a → a ≡ acksAt s
+  list-is {a} p =
+      let q : acks.Says a ≡ acks.Says (acksAt s) = sym p ∙ ap (λ (v : Verdict). settle v acks.Refused (acks.Says (acksAt s))) (list-said p) in
+      cc
 
   -- a packet's numbers are of 14 bits, and it has three acknowledgements at most
   pub number-lt : headAt s .number < 16384
@@ -94,21 +79,30 @@ module _ (s : List ℕ) where
   unfolding payloadOf
   payload-rest at e = (λ i. take (length s - e i) (drop (e i) s)) ∙ ap (λ (n : ℕ). take n (drop (headerLength s) s)) (sym (length-drop (headerLength s) s)) ∙ take-length (drop (headerLength s) s)
 
+-- what the tests settle on: why the packet is refused, or what it acknowledges
+abbrev pub settled : List ℕ → Verdict → AcksReading
+settled s v = settle v acks.Refused (acks.Says (acksAt s))
+
 -- the line's own tests hold: the list's tests decide, and then the payload's
 module _ (l : Line) (s : List ℕ) (kind : headAt s .kind ≡ l .kind) (inside : l .modes .local ≡ modem) where
-  pub arrive-refused : {r : Refusal} → verdict (listTests s) ≡ Refuse r → Refuse r ≡ verdict (arriveTests l s)
+  pub arrive-refused : {r : Refusal} → verdict (listTests s) ≡ Refuse r → acks.Refused r ≡ settled s (verdict (arriveTests l s))
   unfolding arriveTests
-  arrive-refused e = rw (eq-eqb _ _ kind, eq-eqb _ _ inside) (sym (verdict-stop (listTests s) (must (payloadFits s largest) SIZE ∷ []) e))
+  arrive-refused {r} e =
+      let f : Refuse r ≡ verdict (arriveTests l s) = rw (eq-eqb _ _ kind, eq-eqb _ _ inside) (sym (verdict-stop (listTests s) (must (payloadFits s (receiveLargest l)) SIZE ∷ []) e)) in
+      ap (settled s) f
 
-  arrive-sized : verdict (listTests s) ≡ Pass → verdict (must (payloadFits s largest) SIZE ∷ []) ≡ verdict (arriveTests l s)
+  arrive-sized : verdict (listTests s) ≡ Pass → verdict (must (payloadFits s (receiveLargest l)) SIZE ∷ []) ≡ verdict (arriveTests l s)
   unfolding arriveTests
-  arrive-sized e = rw (eq-eqb _ _ kind, eq-eqb _ _ inside) (sym (verdict-on (listTests s) (must (payloadFits s largest) SIZE ∷ []) e))
+  arrive-sized e = rw (eq-eqb _ _ kind, eq-eqb _ _ inside) (sym (verdict-on (listTests s) (must (payloadFits s (receiveLargest l)) SIZE ∷ []) e))
 
-  pub arrive-passed : verdict (listTests s) ≡ Pass → payloadFits s largest ≡ true → Pass ≡ verdict (arriveTests l s)
-  arrive-passed e f = ap (λ (t : Bool). verdict (must t SIZE ∷ [])) (sym f) ∙ arrive-sized e
+  pub arrive-passes : verdict (listTests s) ≡ Pass → payloadFits s (receiveLargest l) ≡ true → verdict (arriveTests l s) ≡ Pass
+  arrive-passes e f = sym (arrive-sized e) ∙ ap (λ (t : Bool). verdict (must t SIZE ∷ [])) f
 
-  pub arrive-large : verdict (listTests s) ≡ Pass → payloadFits s largest ≡ false → Refuse SIZE ≡ verdict (arriveTests l s)
-  arrive-large e f = ap (λ (t : Bool). verdict (must t SIZE ∷ [])) (sym f) ∙ arrive-sized e
+  pub arrive-passed : verdict (listTests s) ≡ Pass → payloadFits s (receiveLargest l) ≡ true → acks.Says (acksAt s) ≡ settled s (verdict (arriveTests l s))
+  arrive-passed e f = ap (settled s) (ap (λ (t : Bool). verdict (must t SIZE ∷ [])) (sym f) ∙ arrive-sized e)
+
+  pub arrive-large : verdict (listTests s) ≡ Pass → payloadFits s (receiveLargest l) ≡ false → acks.Refused SIZE ≡ settled s (verdict (arriveTests l s))
+  arrive-large e f = ap (settled s) (ap (λ (t : Bool). verdict (must t SIZE ∷ [])) (sym f) ∙ arrive-sized e)
 
 -- all tests pass
 module _ (l : Line) (s : List ℕ) (pass : verdict (arriveTests l s) ≡ Pass) where
@@ -123,7 +117,7 @@ module _ (l : Line) (s : List ℕ) (pass : verdict (arriveTests l s) ≡ Pass) w
   unfolding arriveTests
   arrive-list = passes (listTests s) (tests .1 .1 .0, (tests .1 .1 .1 .0, tt))
 
-  sized : sizeFits (channelAt s) (length s - headerLength s) largest ≡ true
+  sized : sizeFits (channelAt s) (length s - headerLength s) (receiveLargest l) ≡ true
   unfolding arriveTests
   sized = tests .1 .1 .1 .1 .0
 
@@ -131,12 +125,12 @@ module _ (l : Line) (s : List ℕ) (pass : verdict (arriveTests l s) ≡ Pass) w
   unfolding arriveTests
   below-three = ltb-true _ _ (each (ltb (channelAt s) 3 ∷ acksServed (acksAt s) ∷ []) (tests .1 .1 .1 .0) .0)
 
-  pub arrive-size : length (payloadOf s) ≤ largest
+  pub arrive-size : length (payloadOf s) ≤ receiveLargest l
   unfolding sizeFits
   arrive-size =
-      pick-by (λ (t : Bool). t ≡ true → length (payloadOf s) ≤ largest) (eqb (channelAt s) 0)
+      pick-by (λ (t : Bool). t ≡ true → length (payloadOf s) ≤ receiveLargest l) (eqb (channelAt s) 0)
       (λ _ z. let e : length s - headerLength s ≡ 0 = eqb-true _ _ z in omega (arith, payload-length s))
-      (λ _ z. let e : length s - headerLength s ≤ largest = leb-true _ _ z in omega (arith, payload-length s))
+      (λ _ z. let e : length s - headerLength s ≤ receiveLargest l = leb-true _ _ z in omega (arith, payload-length s))
       sized
 
   -- a payload stands on channel 1 or 2
@@ -160,14 +154,14 @@ module _ (l : Line) (s : List ℕ) where
   unfolding arrivedLine
   news-all q = rw (le-ltb 0 (length (payloadOf s)) (omega (arith, payload-length s))) refl
 
-  pub store-all : length s ≤ headerLength s → (i : ℕ) (store : List ℕ) → store ≡ arrivedStore l i s store
-  unfolding arrivedStore
-  store-all q i store = rw (le-ltb 0 (length (payloadOf s)) (omega (arith, payload-length s))) refl
+  pub part-all : length s ≤ headerLength s → (part : List ℕ) → part ≡ arrivedPart l s part
+  unfolding arrivedPart
+  part-all q part = rw (le-ltb 0 (length (payloadOf s)) (omega (arith, payload-length s))) refl
 
   pub payload-line : headerLength s < length s → storedLine (newsLine l s) (headAt s .channel) (headAt s .number) (length (payloadOf s)) ≡ arrivedLine l s
   unfolding arrivedLine
   payload-line q = rw (lt-ltb 0 (length (payloadOf s)) (omega (arith, payload-length s))) refl
 
-  pub payload-store : headerLength s < length s → (i : ℕ) (store : List ℕ) → storedStore (newsLine l s) i (headAt s .channel) (headAt s .number) (payloadOf s) store ≡ arrivedStore l i s store
-  unfolding arrivedStore
-  payload-store q i store = rw (lt-ltb 0 (length (payloadOf s)) (omega (arith, payload-length s))) (news-store l s i (headAt s .channel) (headAt s .number) (payloadOf s) store)
+  pub payload-part : headerLength s < length s → (part : List ℕ) → storedPart (newsLine l s) (headAt s .channel) (headAt s .number) (payloadOf s) part ≡ arrivedPart l s part
+  unfolding arrivedPart
+  payload-part q part = rw (lt-ltb 0 (length (payloadOf s)) (omega (arith, payload-length s))) (news-part l s (headAt s .channel) (headAt s .number) (payloadOf s) part)

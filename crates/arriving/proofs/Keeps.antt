@@ -1,21 +1,21 @@
--- An arrival that the tests let pass keeps what BOOK asks of the line, and the lengths of its arrays and of the store.
+-- An arrival that the tests let pass keeps what BOOK asks of the line, and the lengths of its arrays and of its part of the store.
 -- Assumes nothing.
-use Prim.Native.Nat.{ℕ, _≤_, _<_}
+use Prim.Native.Nat.{ℕ, _+_, _≤_, _<_}
 use mathlib.Core.Path.{_≡_, refl, ap, _∙_}
-use mathlib.Core.Bool.{true, _&&_}
+use mathlib.Core.Bool.{Bool, true, false, _&&_}
 use mathlib.Core.List.{List, [], _∷_}
 use native.Mathlib.Omega.{arith}
 use lib.Dec.{ltb, leb}
 use lib.ListN.{length, length-set}
-use lib.Seq.{length-sets}
+use lib.Seq.{sets, length-sets}
 use borrow.Author.Tests.{le-leb, ltb-true}
 use Rattle.ground.specs.Refusal.{verdict}
 use Rattle.ground.specs.declared.Verdict.the-variants.{Pass}
+use Rattle.ground.specs.Pick.{pick}
 use Rattle.ground.proofs.Picks.{pick-by}
 use Rattle.field.specs.Word.{channelOf, numberOf, wordOf}
 use Rattle.packet.specs.Acks.{ackList}
 use Rattle.packet.specs.Read.{headAt, acksAt, payloadOf}
-use Rattle.channel.specs.Channel.{windowOf}
 use Rattle.channel.specs.Distance.{dist}
 use Rattle.channel.specs.Sizes.{sizeFits}
 use Rattle.sending.specs.Sending.{underWay, heardBase, ackedBy}
@@ -28,21 +28,24 @@ use Rattle.flow.proofs.Keeps.{arrived-keeps}
 use Rattle.owed.proofs.Steps.{enter-keeps, word-span}
 use Rattle.mode.specs.declared.Modes.{Modes}
 use Rattle.line.specs.Line.{isOpen, sendingOf, receivingOf, withReceiving}
-use Rattle.line.specs.Fit.{largest, lineFits}
+use Rattle.line.specs.Fit.{lineFits}
+use Rattle.line.specs.Figures.{sendWindow, receiveWindow, receiveLargest}
 use Rattle.line.specs.Shape.{Shaped}
 use Rattle.line.specs.declared.Line.{Line}
 use Rattle.line.proofs.Keeps.{LineOk, ok-line, receiving-side, with-receiving-ok}
 use Rattle.line.proofs.Shape.{sending-long, receiving-long, with-sending-shaped, with-receiving-shaped}
-use Rattle.store.specs.Store.{regionOf, slotAt}
+use Rattle.line.specs.Part.{partLength, regionOf, regionIn}
+use Rattle.store.specs.Store.{slotAt, partAt, withPartAt}
+use Rattle.store.proofs.Parts.{part-same, part-sets}
 use Rattle.store.specs.declared.Region.{Region}
 use Rattle.store.specs.declared.Way.the-variants as way
 use Rattle.relay.specs.RelayTests.{reliable}
-use Rattle.arriving.specs.Effect.{Relaying, heardLine, ackedLine, ackedAll, owingLine, arrivalAt, storedLine, putAs, storedStore}
-use Rattle.arriving.specs.Arrive.{arriveTests, newsLine, carries, arrivedLine, arrivedStore}
+use Rattle.arriving.specs.Effect.{Relaying, heardLine, ackedLine, ackedAll, owingLine, arrivalAt, storedLine, putAs, storedPart, storedStore}
+use Rattle.arriving.specs.Arrive.{arriveTests, newsLine, carries, arrivedLine, arrivedPart, arrivedStore}
 use Rattle.arriving.proofs.StepsStay.{stored-stays}
 use Rattle.channel.proofs.Windows.{window-narrow}
-use Rattle.relay.proofs.Lines.{channel-span}
-use Rattle.arriving.proofs.Effects.{ok}
+use Rattle.relay.proofs.Lines.{channel-span, slot-in}
+use Rattle.arriving.proofs.Effects.{ok, stored-near, place-near}
 use Rattle.arriving.proofs.Arrivals.{news-relaying, number-lt, arrive-relaying, arrive-size, arrive-reliable}
 
 -- no step changes how many sizes a side has
@@ -66,7 +69,7 @@ module _ (l : Line) (h : Shaped l) where
   heard-shaped channel base =
       let s : Sending = sendingOf l channel in
       pick-by Shaped (reliable channel)
-      (λ _. with-sending-shaped l h channel (heardBase (windowOf channel) s base) (ap length (heard-sizes (windowOf channel) s base) ∙ sending-long l h channel))
+      (λ _. with-sending-shaped l h channel (heardBase (sendWindow l channel) s base) (ap length (heard-sizes (sendWindow l channel) s base) ∙ sending-long l h channel))
       (λ _. h)
 
   pub acked-shaped : (word : ℕ) → Shaped (ackedLine l word)
@@ -80,8 +83,8 @@ module _ (l : Line) (h : Shaped l) where
   stored-shaped channel number size =
       let r : Receiving = receivingOf l channel in
       with-receiving-shaped (owingLine l channel number) (record { sending1 = h .sending1; sending2 = h .sending2; receiving1 = h .receiving1; receiving2 = h .receiving2 })
-      channel (arrivedAs (windowOf channel) r (arrivalAt l channel number) size)
-      (arrived-long (windowOf channel) r (arrivalAt l channel number) size ∙ receiving-long l h channel)
+      channel (arrivedAs (receiveWindow l channel) r (arrivalAt l channel number) size)
+      (arrived-long (receiveWindow l channel) r (arrivalAt l channel number) size ∙ receiving-long l h channel)
 
 pub all-shaped : (words : List ℕ) (l : Line) → Shaped l → Shaped (ackedAll l words)
 unfolding ackedAll
@@ -110,13 +113,13 @@ module _ (l : Line) (k : Relaying l) (h : Shaped l) (channel number : ℕ) (c : 
         quiet = λ q. absurd (q (k .inside));
       }
 
-  pub stored-relaying : (size : ℕ) → sizeFits largest size ≡ true → Relaying (storedLine l channel number size)
+  pub stored-relaying : (size : ℕ) → sizeFits (receiveLargest l) size ≡ true → Relaying (storedLine l channel number size)
   unfolding storedLine
   stored-relaying size f =
       let r : Receiving = receivingOf l channel in
-      let m : Receiving = arrivedAs (windowOf channel) r (arrivalAt l channel number) size in
-      let long : windowOf channel ≤ length (r .sizes) = omega (arith, window-narrow channel, receiving-long l h channel) in
-      let fit : receivingFits (windowOf channel) largest m ≡ true = arrived-keeps (windowOf channel) largest (window-narrow channel) r (receiving-side l (ok l k) (k .inside) channel) number size long f in
+      let m : Receiving = arrivedAs (receiveWindow l channel) r (arrivalAt l channel number) size in
+      let long : receiveWindow l channel ≤ length (r .sizes) = omega (arith, window-narrow channel, receiving-long l h channel) in
+      let fit : receivingFits (receiveWindow l channel) (receiveLargest l) m ≡ true = arrived-keeps (receiveWindow l channel) (receiveLargest l) (window-narrow channel) r (receiving-side l (ok l k) (k .inside) channel) number size long f in
       let s = stored-stays l channel number size in
       record {
         fits = ok-line (withReceiving (owingLine l channel number) channel m) (with-receiving-ok (owingLine l channel number) owing-ok (k .inside) channel m fit);
@@ -129,7 +132,7 @@ module _ (l : Line) (s : List ℕ) (fits : lineFits l ≡ true) (opened : isOpen
   relaying : Relaying l
   relaying = arrive-relaying l s pass fits opened
 
-  payload-sized : carries s ≡ true → sizeFits largest (length (payloadOf s)) ≡ true
+  payload-sized : carries s ≡ true → sizeFits (receiveLargest l) (length (payloadOf s)) ≡ true
   payload-sized t = rw (t, le-leb _ _ (arrive-size l s pass))
 
   pub arrived-relaying : Relaying (arrivedLine l s)
@@ -150,20 +153,61 @@ module _ (l : Line) (s : List ℕ) (fits : lineFits l ≡ true) (opened : isOpen
   pub arrived-line-keeps : (lineFits (arrivedLine l s) ≡ true) × Shaped (arrivedLine l s)
   arrived-line-keeps = (arrived-relaying .fits, arrived-shaped)
 
--- the store stays as long as it was
-put-length : (w : ℕ) (r : Receiving) (g : Region) (a : Arrival) (message store : List ℕ) → length (putAs w r g a message store) ≡ length store
-put-length w r g (Stored d) message store = length-sets store (slotAt g (arrivalPlace w r d)) message
-put-length w r g There message store = refl
-put-length w r g Old message store = refl
+-- the line's part of the store stays as long as it was
+put-length : (w : ℕ) (r : Receiving) (g : Region) (a : Arrival) (message part : List ℕ) → length (putAs w r g a message part) ≡ length part
+put-length w r g (Stored d) message part = length-sets part (slotAt g (arrivalPlace w r d)) message
+put-length w r g There message part = refl
+put-length w r g Old message part = refl
 
-pub stored-store-length : (l : Line) (i channel number : ℕ) (message store : List ℕ) → length (storedStore l i channel number message store) ≡ length store
-unfolding storedStore
-stored-store-length l i channel number message store =
-    put-length (windowOf channel) (receivingOf l channel) (regionOf i way.Receiving channel) (arrivalAt l channel number) message store
+pub stored-part-length : (l : Line) (channel number : ℕ) (message part : List ℕ) → length (storedPart l channel number message part) ≡ length part
+unfolding storedPart
+stored-part-length l channel number message part =
+    put-length (receiveWindow l channel) (receivingOf l channel) (regionOf l way.Receiving channel) (arrivalAt l channel number) message part
 
-pub arrived-store-length : (l : Line) (i : ℕ) (s store : List ℕ) → length (arrivedStore l i s store) ≡ length store
-unfolding arrivedStore
-arrived-store-length l i s store =
+pub arrived-part-length : (l : Line) (s part : List ℕ) → length (arrivedPart l s part) ≡ length part
+unfolding arrivedPart
+arrived-part-length l s part =
+    pick-by (λ (m : List ℕ). length m ≡ length part) (carries s)
+    (λ _. stored-part-length l (headAt s .channel) (headAt s .number) (payloadOf s) part)
+    (λ _. refl)
+
+-- what is put into the part is put into the store
+module _ (l : Line) (k : Relaying l) (start : ℕ) (store : List ℕ) (inside : start + partLength l ≤ length store) where
+  abbrev part : List ℕ
+  part = partAt start (partLength l) store
+
+  put-in-store : (channel number : ℕ) (message : List ℕ) → reliable channel ≡ true → length message ≤ receiveLargest l
+      → withPartAt start (partLength l) store (storedPart l channel number message part) ≡ storedStore l start channel number message store
+  unfolding storedPart storedStore
+  put-in-store channel number message v small = go (arrivalAt l channel number) refl
+    where
+      go : (a : Arrival) → arrivalAt l channel number ≡ a
+          → withPartAt start (partLength l) store (putAs (receiveWindow l channel) (receivingOf l channel) (regionOf l way.Receiving channel) a message part)
+          ≡ putAs (receiveWindow l channel) (receivingOf l channel) (regionIn start l way.Receiving channel) a message store
+      go (Stored d) e =
+          let p = arrivalPlace (receiveWindow l channel) (receivingOf l channel) d in
+          let near = place-near l k channel (stored-near (receiveWindow l channel) (receivingOf l channel) number e) in
+          let g = regionOf l way.Receiving channel in
+          let r = slot-in l way.Receiving channel p (partLength l) v near (omega arith) in
+          let same : start + slotAt g p ≡ slotAt (regionIn start l way.Receiving channel) p = omega arith in
+          part-sets start (partLength l) store inside (slotAt g p) message (omega (arith, r .inside, small)) ∙ ap (λ (j : ℕ). sets store j message) same
+      go There e = part-same start (partLength l) store
+      go Old e = part-same start (partLength l) store
+
+  pub arrived-in-store : (s : List ℕ) → verdict (arriveTests l s) ≡ Pass → withPartAt start (partLength l) store (arrivedPart l s part) ≡ arrivedStore l start s store
+  unfolding arrivedPart arrivedStore
+  arrived-in-store s pass = go (carries s) refl
+    where
+      go : (t : Bool) → carries s ≡ t
+          → withPartAt start (partLength l) store (pick t (storedPart l (headAt s .channel) (headAt s .number) (payloadOf s) part) part)
+          ≡ pick t (storedStore l start (headAt s .channel) (headAt s .number) (payloadOf s) store) store
+      go true e = put-in-store (headAt s .channel) (headAt s .number) (payloadOf s) (arrive-reliable l s pass (ltb-true _ _ e)) (arrive-size l s pass)
+      go false e = part-same start (partLength l) store
+
+-- nor does the store's length change
+pub arrived-store-length : (l : Line) (start : ℕ) (s store : List ℕ) → length (arrivedStore l start s store) ≡ length store
+unfolding arrivedStore storedStore
+arrived-store-length l start s store =
     pick-by (λ (m : List ℕ). length m ≡ length store) (carries s)
-    (λ _. stored-store-length l i (headAt s .channel) (headAt s .number) (payloadOf s) store)
+    (λ _. put-length (receiveWindow l (headAt s .channel)) (receivingOf l (headAt s .channel)) (regionIn start l way.Receiving (headAt s .channel)) (arrivalAt l (headAt s .channel) (headAt s .number)) (payloadOf s) store)
     (λ _. refl)

@@ -1,7 +1,7 @@
 -- What an arriving packet leaves as it was: settings and modes in every case; base and acknowledgements leave the receiving sides too.
 -- Assumes nothing.
 use Prim.Native.Nat.{ℕ}
-use mathlib.Core.Path.{_≡_, ap}
+use mathlib.Core.Path.{_≡_}
 use mathlib.Core.List.{List}
 use lib.Dec.{eqb}
 use lib.ListN.{length}
@@ -9,16 +9,16 @@ use Rattle.ground.specs.Pick.{pick}
 use Rattle.ground.proofs.Picks.{pick-by}
 use Rattle.packet.specs.Acks.{ackList}
 use Rattle.packet.specs.Read.{headAt, acksAt, payloadOf}
-use Rattle.channel.specs.Channel.{windowOf}
 use Rattle.receiving.specs.Receiving.{arrivalOf}
 use Rattle.receiving.specs.declared.Receiving.{Receiving}
 use Rattle.line.specs.Line.{receivingOf}
+use Rattle.line.specs.Figures.{receiveWindow}
 use Rattle.line.specs.declared.Line.{Line}
-use Rattle.store.specs.Store.{regionOf}
+use Rattle.line.proofs.Same.{SameSettings, region-same, then-same}
 use Rattle.store.specs.declared.Way.the-variants as way
-use Rattle.arriving.specs.Effect.{heardLine, putAs, storedStore}
+use Rattle.arriving.specs.Effect.{heardLine, putAs, storedPart}
 use Rattle.arriving.specs.Arrive.{newsLine, carries, arrivedLine}
-use Rattle.arriving.proofs.StepsStay.{Stays, NewsOnly, then-stays, then-news, heard-news, stored-stays, all-news}
+use Rattle.arriving.proofs.StepsStay.{NewsOnly, then-news, heard-news, stored-stays, all-news}
 
 module _ (l : Line) (s : List ℕ) where
   pub news-only : NewsOnly l (newsLine l s)
@@ -29,14 +29,14 @@ module _ (l : Line) (s : List ℕ) where
   pub news-receiving : (channel : ℕ) → receivingOf (newsLine l s) channel ≡ receivingOf l channel
   news-receiving channel = λ i. pick (eqb channel 1) (news-only .receiving1 i) (news-only .receiving2 i)
 
-  pub news-store : (i channel number : ℕ) (message store : List ℕ) → storedStore (newsLine l s) i channel number message store ≡ storedStore l i channel number message store
-  unfolding storedStore
-  news-store i channel number message store =
-      ap (λ (r : Receiving). putAs (windowOf channel) r (regionOf i way.Receiving channel) (arrivalOf (windowOf channel) r number) message store) (news-receiving channel)
+  pub news-part : (channel number : ℕ) (message part : List ℕ) → storedPart (newsLine l s) channel number message part ≡ storedPart l channel number message part
+  unfolding storedPart
+  news-part channel number message part =
+      λ i. putAs (receiveWindow l channel) (news-receiving channel i) (region-same (news-only .stays) way.Receiving channel i) (arrivalOf (receiveWindow l channel) (news-receiving channel i) number) message part
 
-  pub arrived-stays : Stays l (arrivedLine l s)
+  pub arrived-stays : SameSettings l (arrivedLine l s)
   unfolding arrivedLine
   arrived-stays =
-      pick-by (Stays l) (carries s)
-      (λ _. then-stays (news-only .stays) (stored-stays (newsLine l s) (headAt s .channel) (headAt s .number) (length (payloadOf s))))
+      pick-by (SameSettings l) (carries s)
+      (λ _. then-same (news-only .stays) (stored-stays (newsLine l s) (headAt s .channel) (headAt s .number) (length (payloadOf s))))
       (λ _. news-only .stays)

@@ -1,4 +1,4 @@
--- What a base, an acknowledgement and a payload do to the line at which they arrive, and to its slots in the store.
+-- What a base, an acknowledgement and a payload do to the line at which they arrive, and to its part of the store.
 -- Assumes nothing.
 use Prim.Native.Nat.{ℕ}
 use mathlib.Core.Path.{_≡_}
@@ -7,7 +7,6 @@ use mathlib.Core.List.{List, [], _∷_}
 use lib.Seq.{sets}
 use Rattle.ground.specs.Pick.{pick}
 use Rattle.field.specs.Word.{channelOf, numberOf, wordOf}
-use Rattle.channel.specs.Channel.{windowOf}
 use Rattle.sending.specs.Sending.{heardBase, ackedBy}
 use Rattle.receiving.specs.Receiving.{arrivalOf, arrivalPlace, arrivedAs}
 use Rattle.receiving.specs.declared.Receiving.{Receiving}
@@ -17,8 +16,10 @@ use Rattle.mode.specs.Given.{modem}
 use Rattle.owed.specs.Owed.{entered}
 use Rattle.line.specs.Line.{isOpen, sendingOf, withSending, receivingOf, withReceiving, withOwed}
 use Rattle.line.specs.Fit.{lineFits}
+use Rattle.line.specs.Figures.{sendWindow, receiveWindow}
+use Rattle.line.specs.Part.{regionOf, regionIn}
 use Rattle.line.specs.declared.Line.{Line}
-use Rattle.store.specs.Store.{regionOf, slotAt}
+use Rattle.store.specs.Store.{slotAt}
 use Rattle.store.specs.declared.Region.{Region}
 use Rattle.store.specs.declared.Way.the-variants as way
 use Rattle.relay.specs.RelayTests.{reliable}
@@ -31,7 +32,7 @@ pub record Relaying (l : Line) : Type 0 where
 
 -- "Base b against the last base heard h" (RULES 4.3), on a channel that is reliable; channel 0 has none (RULES 2.5)
 unfoldable pub heardLine : Line → ℕ → ℕ → Line
-heardLine l channel base = pick (reliable channel) (withSending l channel (heardBase (windowOf channel) (sendingOf l channel) base)) l
+heardLine l channel base = pick (reliable channel) (withSending l channel (heardBase (sendWindow l channel) (sendingOf l channel) base)) l
 
 -- "An acknowledged number k on its channel" (RULES 4.5)
 unfoldable pub ackedLine : Line → ℕ → Line
@@ -48,22 +49,27 @@ owingLine l channel number = withOwed l (entered (l .owed) (wordOf channel numbe
 
 -- "Payload number n against the next to hand out R" (RULES 4.7)
 abbrev pub arrivalAt : Line → ℕ → ℕ → Arrival
-arrivalAt l channel number = arrivalOf (windowOf channel) (receivingOf l channel) number
+arrivalAt l channel number = arrivalOf (receiveWindow l channel) (receivingOf l channel) number
 
 -- the line once that message, of `size` octets, has come (RULES 4.7, RULES 4.10, RULES 4.12)
 unfoldable pub storedLine : Line → ℕ → ℕ → ℕ → Line
 storedLine l channel number size =
     withReceiving (owingLine l channel number) channel
-    (arrivedAs (windowOf channel) (receivingOf l channel) (arrivalAt l channel number) size)
+    (arrivedAs (receiveWindow l channel) (receivingOf l channel) (arrivalAt l channel number) size)
 
 -- "the message is stored" (RULES 4.7), "unless that place is already filled, in which case the first stays" (RULES 4.8); an old one "is
 -- not stored" (RULES 4.9)
 abbrev pub putAs : ℕ → Receiving → Region → Arrival → List ℕ → List ℕ → List ℕ
-putAs w r g (Stored d) message store = sets store (slotAt g (arrivalPlace w r d)) message
-putAs w r g There message store = store
-putAs w r g Old message store = store
+putAs w r g (Stored d) message part = sets part (slotAt g (arrivalPlace w r d)) message
+putAs w r g There message part = part
+putAs w r g Old message part = part
 
--- the store once that message has come for line i (RULES 6.6)
+-- the line's part of the store once that message has come (RULES 6.6)
+unfoldable pub storedPart : Line → ℕ → ℕ → List ℕ → List ℕ → List ℕ
+storedPart l channel number message part =
+    putAs (receiveWindow l channel) (receivingOf l channel) (regionOf l way.Receiving channel) (arrivalAt l channel number) message part
+
+-- the whole store then, in which the part begins at `start`
 unfoldable pub storedStore : Line → ℕ → ℕ → ℕ → List ℕ → List ℕ → List ℕ
-storedStore l i channel number message store =
-    putAs (windowOf channel) (receivingOf l channel) (regionOf i way.Receiving channel) (arrivalAt l channel number) message store
+storedStore l start channel number message store =
+    putAs (receiveWindow l channel) (receivingOf l channel) (regionIn start l way.Receiving channel) (arrivalAt l channel number) message store

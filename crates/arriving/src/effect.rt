@@ -1,18 +1,17 @@
-// What a base, an acknowledgement and a payload do to the line at which they arrive, and to its slots in the store:
+// What a base, an acknowledgement and a payload do to the line at which they arrive, and to its part of the store:
 // RULES 4.3 to RULES 4.13. Each is a step of its own; which of them a packet makes, and in what order, is said in lib.rt.
 ghost use mathlib.Core.Path.{_≡_};
 ghost use mathlib.Core.Bool.{true};
 ghost use Prim.Native.Nat.{_≤_, _<_};
 ghost use lib.ListN.{length};
 ghost use Rattle.packet.specs.Acks.{ackList};
-ghost use Rattle.line.specs.Fit.{largest};
+ghost use Rattle.line.specs.Figures.{receiveLargest};
+ghost use Rattle.line.specs.Part.{partLength};
 ghost use Rattle.relay.specs.RelayTests.{reliable};
-ghost use Rattle.arriving.specs.Effect.{Relaying, heardLine, ackedLine, ackedAll, owingLine, storedLine, storedStore};
-use channel::Channel;
+ghost use Rattle.arriving.specs.Effect.{Relaying, heardLine, ackedLine, ackedAll, owingLine, storedLine, storedPart};
 use line::Line;
 use packet::Acks;
 use receiving::Arrival;
-use store::Region;
 use store::Way;
 
 // A base is heard on a channel; channel 0 has none.
@@ -22,7 +21,7 @@ pub fn base_heard(l: Line, channel: u8, base: u16) -> Line
 {
     if (channel == 1) | (channel == 2) {
         let side = l.sending(channel);
-        let window = Channel::of(channel).window;
+        let window = l.send_window(channel);
         let next = side.heard_base(window, base as u32);
         return l.with_sending(channel, next);
     }
@@ -72,26 +71,19 @@ pub fn number_owed(l: Line, channel: u8, number: u16) -> Line
 }
 
 // A message comes: its octets go into the slot of its place if they are new there, and its number is owed in every case.
-pub fn payload_stored(
-    l: Line,
-    i: u8,
-    store: &mut [u8],
-    channel: u8,
-    number: u16,
-    message: &[u8],
-) -> Line
-    requires { ⌜ Relaying l × (i < 4) × (42240 ≤ length (now store)) × (reliable channel ≡ true) × (number < 16384) × (length (now message) ≤ largest) ⌝ }
-    ensures { λ r. ⌜ (r ≡ storedLine l channel number (length (now (message .entry)))) × (now (store .exit) ≡ storedStore l i channel number (now (message .entry)) (now (store .entry))) ⌝ }
+pub fn payload_stored(l: Line, part: &mut [u8], channel: u8, number: u16, message: &[u8]) -> Line
+    requires { ⌜ Relaying l × (partLength l ≤ length (now part)) × (reliable channel ≡ true) × (number < 16384) × (length (now message) ≤ receiveLargest l) ⌝ }
+    ensures { λ r. ⌜ (r ≡ storedLine l channel number (length (now (message .entry)))) × (now (part .exit) ≡ storedPart l channel number (now (message .entry)) (now (part .entry))) ⌝ }
 {
     let owing = number_owed(l, channel, number);
     let side = l.receiving(channel);
-    let window = Channel::of(channel).window;
+    let window = l.receive_window(channel);
     let arrival = side.arrival(window, number as u32);
     match arrival {
         Arrival::Stored(d) => {
             let place = side.place_of(window, d);
-            let region = Region::of(i, Way::Receiving, channel);
-            region.put(store, place, message);
+            let region = l.region(Way::Receiving, channel);
+            region.put(part, place, message);
             let next = side.stored_at(window, d, message.len() as u16);
             owing.with_receiving(channel, next)
         }

@@ -11,3 +11,4 @@ pub mod RestingTurns
 pub mod RestingLists
 pub mod Spans
 pub mod Once
+pub mod Parts

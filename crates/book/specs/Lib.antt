@@ -3,3 +3,4 @@ pub mod Closing
 pub mod Shape
 pub mod Resting
 pub mod Marks
+pub mod Parts

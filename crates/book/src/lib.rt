@@ -7,6 +7,7 @@ ghost use Prim.Native.Nat.{_≤_, _<_};
 ghost use Rattle.book.specs.Book.{freshBook, lineOf, withLine, openIn, linesFit, bookFits, ownerOf, taken};
 ghost use Rattle.book.specs.Closing.{closedAt};
 ghost use Rattle.book.specs.Marks.{newIn, marked, none};
+ghost use Rattle.book.specs.Parts.{partStart};
 use line::Line;
 
 mod resting; // resting.rt: the identifiers that rest
@@ -33,6 +34,17 @@ pub enum Owner {
 }
 
 impl Book {
+    // How many octets a lent store has at the least: four lines' parts.
+    pub const STORE: usize = 42240;
+
+    // The octet of the store that a line's part begins at.
+    pub fn part_start(self, i: u8) -> usize
+        requires { ⌜ i < 4 ⌝ }
+        ensures { λ r. ⌜ r ≡ partStart self i ⌝ }
+    {
+        i as usize * Line::PART
+    }
+
     // Four closed lines, and nothing rests.
     pub fn fresh() -> Book
         ensures { λ r. ⌜ r ≡ freshBook ⌝ }

@@ -13,6 +13,7 @@ use Rattle.ground.specs.declared.Verdict.the-variants.{Pass}
 use Rattle.ground.proofs.Verdicts.{passed, pass-both}
 use Rattle.line.specs.Fit.{lineFits}
 use Rattle.book.specs.Book.{lineOf, bookFits}
+use Rattle.book.specs.Parts.{storeLength}
 use Rattle.book.specs.declared.Book.{Book}
 use Rattle.book.proofs.Facts.{book-ok, line-fits}
 use Rattle.calls.specs.Parts.{fitBook, roomy, lineNumber, mustBeOpen}
@@ -33,9 +34,9 @@ on-line b i e =
     let t = passed (fitBook b ∷ lineNumber i ∷ []) e in
     there b i (t .0) (t .1 .0)
 
-pub on-both : (b : Book) (n i : ℕ) → verdict (fitBook b ∷ roomy n ∷ lineNumber i ∷ []) ≡ Pass → OnLine b i × (42240 ≤ n)
+pub on-both : (b : Book) (n i : ℕ) → verdict (fitBook b ∷ roomy b n ∷ lineNumber i ∷ []) ≡ Pass → OnLine b i × (storeLength b ≤ n)
 on-both b n i e =
-    let t = passed (fitBook b ∷ roomy n ∷ lineNumber i ∷ []) e in
+    let t = passed (fitBook b ∷ roomy b n ∷ lineNumber i ∷ []) e in
     (there b i (t .0) (t .1 .1 .0), leb-true _ _ (t .1 .0))
 
 -- and with what stands behind them
@@ -44,9 +45,9 @@ line-passed b i ts e =
     let p = pass-both (fitBook b ∷ lineNumber i ∷ []) ts e in
     (on-line b i (p .0), p .1)
 
-pub both-passed : (b : Book) (n i : ℕ) (ts : List Test) → verdict (fitBook b ∷ roomy n ∷ lineNumber i ∷ ts) ≡ Pass → OnLine b i × (42240 ≤ n) × (verdict ts ≡ Pass)
+pub both-passed : (b : Book) (n i : ℕ) (ts : List Test) → verdict (fitBook b ∷ roomy b n ∷ lineNumber i ∷ ts) ≡ Pass → OnLine b i × (storeLength b ≤ n) × (verdict ts ≡ Pass)
 both-passed b n i ts e =
-    let p = pass-both (fitBook b ∷ roomy n ∷ lineNumber i ∷ []) ts e in
+    let p = pass-both (fitBook b ∷ roomy b n ∷ lineNumber i ∷ []) ts e in
     let o = on-both b n i (p .0) in
     (o .0, o .1, p .1)
 
@@ -55,7 +56,7 @@ module _ {b : Book} {i : ℕ} {ts whole : List Test} {v : Verdict} where
   pub asked-line : whole ≡ (fitBook b ∷ lineNumber i ∷ ts) → v ≡ verdict whole → v ≡ Pass → OnLine b i × (verdict ts ≡ Pass)
   asked-line parts e p = line-passed b i ts (sym (ap verdict parts) ∙ sym e ∙ p)
 
-  pub asked-both : (n : ℕ) → whole ≡ (fitBook b ∷ roomy n ∷ lineNumber i ∷ ts) → v ≡ verdict whole → v ≡ Pass → OnLine b i × (42240 ≤ n) × (verdict ts ≡ Pass)
+  pub asked-both : (n : ℕ) → whole ≡ (fitBook b ∷ roomy b n ∷ lineNumber i ∷ ts) → v ≡ verdict whole → v ≡ Pass → OnLine b i × (storeLength b ≤ n) × (verdict ts ≡ Pass)
   asked-both n parts e p = both-passed b n i ts (sym (ap verdict parts) ∙ sym e ∙ p)
 
 -- and of what a mode call asks before its own tests

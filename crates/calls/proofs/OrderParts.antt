@@ -41,15 +41,15 @@ pub tick-parts : (b : Book) (i time : ℕ) → tickOrder b i time ≡ (fitBook b
 unfolding tickOrder modeTests
 tick-parts b i time = refl
 
-pub take-parts : (b : Book) (store i channel n : ℕ) → takeOrder b store i channel n ≡ (fitBook b ∷ roomy store ∷ lineNumber i ∷ takeCallTests (lineOf b i) channel n)
+pub take-parts : (b : Book) (store i channel n : ℕ) → takeOrder b store i channel n ≡ (fitBook b ∷ roomy b store ∷ lineNumber i ∷ takeCallTests (lineOf b i) channel n)
 unfolding takeOrder takeCallTests relayChannelTests
 take-parts b store i channel n = refl
 
-pub send-parts : (b : Book) (store i channel rank space : ℕ) → sendOrder b store i channel rank space ≡ (fitBook b ∷ roomy store ∷ lineNumber i ∷ sendTests (lineOf b i) channel rank space)
+pub send-parts : (b : Book) (store i channel rank space : ℕ) → sendOrder b store i channel rank space ≡ (fitBook b ∷ roomy b store ∷ lineNumber i ∷ sendTests (lineOf b i) channel rank space)
 unfolding sendOrder sendTests relayChannelTests
 send-parts b store i channel rank space = refl
 
-pub hand-parts : (b : Book) (store i channel space : ℕ) → handOutOrder b store i channel space ≡ (fitBook b ∷ roomy store ∷ lineNumber i ∷ handCallTests (lineOf b i) channel space)
+pub hand-parts : (b : Book) (store i channel space : ℕ) → handOutOrder b store i channel space ≡ (fitBook b ∷ roomy b store ∷ lineNumber i ∷ handCallTests (lineOf b i) channel space)
 unfolding handOutOrder handCallTests relayChannelTests
 hand-parts b store i channel space = refl
 
@@ -61,7 +61,7 @@ pub report-parts : (b : Book) (i channel : ℕ) → reportOrder b i channel ≡ 
 unfolding reportOrder relayChannelTests
 report-parts b i channel = refl
 
-pub arrive-parts : (b : Book) (store : ℕ) (s : List ℕ) → arriveOrder b store s ≡ (fitBook b ∷ roomy store ∷ arrivalTests b s)
+pub arrive-parts : (b : Book) (store : ℕ) (s : List ℕ) → arriveOrder b store s ≡ (fitBook b ∷ roomy b store ∷ arrivalTests b s)
 unfolding arriveOrder arrivalTests addressTests arriveTests
 arrive-parts b store s = refl
 

@@ -8,22 +8,25 @@ use lib.Dec.{ltb, leb, eqb}
 use lib.ListN.{length}
 use Rattle.ground.specs.Refusal.{Test, must}
 use Rattle.ground.specs.declared.Refusal.the-variants.{SHORT, FORM, TYPE, NOLINE, MODE, CHANNEL, SIZE, FULL, SPENT, NOTHING, ROOM, TAKEN, RANGE, CLOCK, RECOVERY, BOOK}
+use Rattle.slip.specs.Slip.{slipLength}
 use Rattle.packet.specs.Read.{headAt, fixedThere, formPlain, listThere, channelsServed, payloadFits}
 use Rattle.places.specs.Places.{maskOf, bitOf}
-use Rattle.channel.specs.Channel.{windowOf, cap}
+use Rattle.channel.specs.Channel.{cap}
 use Rattle.channel.specs.Sizes.{sizeFits}
 use Rattle.sending.specs.Sending.{underWay}
 use Rattle.receiving.specs.Receiving.{nextSize}
 use Rattle.mode.specs.Acts as act
 use Rattle.mode.specs.Given.{audio, modem, text, hasLeft, offered}
 use Rattle.mode.specs.Moved.{ended}
-use Rattle.line.specs.Fit.{largest, settingsFit}
+use Rattle.line.specs.Fit.{settingsFit}
+use Rattle.line.specs.Figures.{sendWindow, sendLargest, receiveLargest}
 use Rattle.line.specs.Line.{isOpen, sendingOf, receivingOf}
 use Rattle.line.specs.declared.Settings.{Settings}
 use Rattle.relay.specs.RelayTests.{inRelay, reliable}
 use Rattle.writing.specs.Write.{headerLengthFor}
 use Rattle.writing.specs.Send.{ranked, isHeld, heldIn, sentLength}
 use Rattle.book.specs.Book.{lineOf, bookFits, ownerOf, taken}
+use Rattle.book.specs.Parts.{storeLength}
 use Rattle.book.specs.declared.Book.{Book}
 use Rattle.book.specs.declared.Owner.{Owner}
 use Rattle.book.specs.declared.Owner.the-variants.{At, Nobody}
@@ -42,13 +45,13 @@ openOrder b i s =
     ∷ must (not (taken b (s .identifier))) TAKEN
     ∷ []
 
--- "Closing: NOLINE, ROOM."; a slip has 12 octets (RULES 14.9)
+-- "Closing: NOLINE, ROOM."; the output has room for a slip (RULES 14.9)
 unfoldable pub closeOrder : Book → ℕ → ℕ → List Test
 closeOrder b i space =
     must (bookFits b) BOOK
     ∷ must (leb i 3) RANGE
     ∷ must (isOpen (lineOf b i)) NOLINE
-    ∷ must (leb 12 space) ROOM
+    ∷ must (leb slipLength space) ROOM
     ∷ []
 
 -- "Mode calls: NOLINE, CLOCK, RECOVERY, RANGE, MODE." An indication is never refused MODE: a, v, m, f or t is indicated (RULES 14.10)
@@ -91,14 +94,14 @@ takeOrder b store i channel n =
     let l = lineOf b i in
     let s = sendingOf l channel in
     must (bookFits b) BOOK
-    ∷ must (leb 42240 store) ROOM
+    ∷ must (leb (storeLength b) store) ROOM
     ∷ must (leb i 3) RANGE
     ∷ must (isOpen l) NOLINE
     ∷ must (inRelay l) MODE
     ∷ must (reliable channel) CHANNEL
-    ∷ must (sizeFits largest n) SIZE
+    ∷ must (sizeFits (sendLargest l) n) SIZE
     ∷ must (ltb (s .taken) cap) SPENT
-    ∷ must (ltb (underWay s) (windowOf channel)) FULL
+    ∷ must (ltb (underWay s) (sendWindow l channel)) FULL
     ∷ []
 
 -- "Held message written ..: NOLINE, MODE, CHANNEL, .. NOTHING, ROOM." (RULES 14.4)
@@ -106,7 +109,7 @@ unfoldable pub sendOrder : Book → ℕ → ℕ → ℕ → ℕ → ℕ → List
 sendOrder b store i channel rank space =
     let l = lineOf b i in
     must (bookFits b) BOOK
-    ∷ must (leb 42240 store) ROOM
+    ∷ must (leb (storeLength b) store) ROOM
     ∷ must (leb i 3) RANGE
     ∷ must (isOpen l) NOLINE
     ∷ must (inRelay l) MODE
@@ -121,7 +124,7 @@ handOutOrder b store i channel space =
     let l = lineOf b i in
     let r = receivingOf l channel in
     must (bookFits b) BOOK
-    ∷ must (leb 42240 store) ROOM
+    ∷ must (leb (storeLength b) store) ROOM
     ∷ must (leb i 3) RANGE
     ∷ must (isOpen l) NOLINE
     ∷ must (inRelay l) MODE
@@ -171,7 +174,7 @@ unfoldable pub arriveOrder : Book → ℕ → List ℕ → List Test
 arriveOrder b store s =
     let l = lineOf b (lineAt (packetLine b s)) in
     must (bookFits b) BOOK
-    ∷ must (leb 42240 store) ROOM
+    ∷ must (leb (storeLength b) store) ROOM
     ∷ must (fixedThere s) SHORT
     ∷ must (formPlain s) FORM
     ∷ must (isSomebody (packetLine b s)) NOLINE
@@ -179,7 +182,7 @@ arriveOrder b store s =
     ∷ must (inRelay l) MODE
     ∷ must (listThere s) SHORT
     ∷ must (channelsServed s) CHANNEL
-    ∷ must (payloadFits s largest) SIZE
+    ∷ must (payloadFits s (receiveLargest l)) SIZE
     ∷ []
 
 -- the list of each call; a call that is lent no store, or no output, does not ask for its length

@@ -8,6 +8,7 @@ use lib.Dec.{leb}
 use lib.ListN.{length}
 use Rattle.ground.specs.Refusal.{Test, must}
 use Rattle.ground.specs.declared.Refusal.the-variants.{NOLINE, ROOM, TAKEN, RANGE, BOOK}
+use Rattle.slip.specs.Slip.{slipLength}
 use Rattle.packet.specs.Read.{headTests}
 use Rattle.mode.specs.Acts.{Act, actTests}
 use Rattle.line.specs.Line.{isOpen}
@@ -21,6 +22,7 @@ use Rattle.writing.specs.Write.{emptyTests}
 use Rattle.writing.specs.Send.{sendTests}
 use Rattle.arriving.specs.Arrive.{arriveTests}
 use Rattle.book.specs.Book.{lineOf, bookFits, taken}
+use Rattle.book.specs.Parts.{storeLength}
 use Rattle.book.specs.declared.Book.{Book}
 use Rattle.calls.specs.Call.{Call}
 use Rattle.calls.specs.Call as call
@@ -30,8 +32,8 @@ use Rattle.calls.specs.Order.{packetLine, isSomebody, lineAt}
 abbrev pub fitBook : Book → Test
 fitBook b = must (bookFits b) BOOK
 
-abbrev pub roomy : ℕ → Test
-roomy store = must (leb 42240 store) ROOM
+abbrev pub roomy : Book → ℕ → Test
+roomy b store = must (leb (storeLength b) store) ROOM
 
 abbrev pub lineNumber : ℕ → Test
 lineNumber i = must (leb i 3) RANGE
@@ -45,7 +47,7 @@ openTests b i s = must (not (isOpen (lineOf b i))) TAKEN ∷ must (settingsFit (
 
 -- closing
 unfoldable pub closeTests : Line → ℕ → List Test
-closeTests l space = mustBeOpen l ∷ must (leb 12 space) ROOM ∷ []
+closeTests l space = mustBeOpen l ∷ must (leb slipLength space) ROOM ∷ []
 
 -- the mode calls
 unfoldable pub modeTests : Line → Act → List Test
@@ -63,9 +65,9 @@ unfoldable pub tests : Call → Book → ℕ → ℕ → List Test
 tests (call.opening i s time) b store space = fitBook b ∷ lineNumber i ∷ openTests b i s
 tests (call.closing i) b store space = fitBook b ∷ lineNumber i ∷ closeTests (lineOf b i) space
 tests (call.mode i a) b store space = fitBook b ∷ lineNumber i ∷ modeTests (lineOf b i) a
-tests (call.taking i channel message) b store space = fitBook b ∷ roomy store ∷ lineNumber i ∷ takeCallTests (lineOf b i) channel (length message)
-tests (call.sending i channel rank) b store space = fitBook b ∷ roomy store ∷ lineNumber i ∷ sendTests (lineOf b i) channel rank space
+tests (call.taking i channel message) b store space = fitBook b ∷ roomy b store ∷ lineNumber i ∷ takeCallTests (lineOf b i) channel (length message)
+tests (call.sending i channel rank) b store space = fitBook b ∷ roomy b store ∷ lineNumber i ∷ sendTests (lineOf b i) channel rank space
 tests (call.empty i channel) b store space = fitBook b ∷ lineNumber i ∷ emptyTests (lineOf b i) channel space
-tests (call.arrival s) b store space = fitBook b ∷ roomy store ∷ arrivalTests b s
-tests (call.handOut i channel) b store space = fitBook b ∷ roomy store ∷ lineNumber i ∷ handCallTests (lineOf b i) channel space
+tests (call.arrival s) b store space = fitBook b ∷ roomy b store ∷ arrivalTests b s
+tests (call.handOut i channel) b store space = fitBook b ∷ roomy b store ∷ lineNumber i ∷ handCallTests (lineOf b i) channel space
 tests (call.report i channel) b store space = fitBook b ∷ lineNumber i ∷ relayChannelTests (lineOf b i) channel

@@ -15,13 +15,16 @@ use Rattle.mode.specs.Acts.{outcome}
 use Rattle.ground.specs.Pick.{pick, bit}
 use Rattle.line.specs.Line.{closedLine, openedLine, sendingOf}
 use Rattle.line.specs.Mode.{steppedTo}
+use Rattle.line.specs.Part.{partLength}
 use Rattle.line.specs.declared.Line.{Line}
+use Rattle.store.specs.Store.{partAt}
 use Rattle.relay.specs.Take.{tookLine, tookStore}
 use Rattle.relay.specs.HandOut.{handedOctets, handedLine}
 use Rattle.writing.specs.Write.{wroteLine, emptyPacket}
 use Rattle.writing.specs.Send.{ranked, heldIn, heldPacket}
 use Rattle.arriving.specs.Arrive.{arrivedLine, arrivedStore}
 use Rattle.book.specs.Book.{lineOf, withLine}
+use Rattle.book.specs.Parts.{partStart}
 use Rattle.book.specs.Closing.{closedAt}
 use Rattle.book.specs.declared.Book.{Book}
 use Rattle.calls.specs.Call.{Call}
@@ -56,29 +59,34 @@ writes rests octets l store out = record { values = length octets ∷ []; line =
 unfoldable pub slipOf : Line → Slip
 slipOf l = record { identifier = l .identifier; kind = l .kind; count1 = l .receiving1 .next; count2 = l .receiving2 .next; reason = bit (ended (l .modes)) }
 
--- what each call does to line i, whose record is l
-unfoldable pub effect : Call → ℕ → Line → List ℕ → List ℕ → Effect
-effect (call.opening _ s time) i l store out = changes [] (openedLine s time) store out
+-- what each call does to line i, whose record is l and whose part of the store begins at `start`
+unfoldable pub effect : Call → ℕ → Line → ℕ → List ℕ → List ℕ → Effect
+effect (call.opening _ s time) i l start store out = changes [] (openedLine s time) store out
 -- "A closed line's record is as in a fresh book", and its identifier rests
-effect (call.closing _) i l store out = writes true (slipOctets (slipOf l)) closedLine store out
-effect (call.mode _ a) i l store out =
+effect (call.closing _) i l start store out = writes true (slipOctets (slipOf l)) closedLine store out
+effect (call.mode _ a) i l start store out =
     let o = outcome (l .modes) a in
     changes (o .said .values) (steppedTo l (o .modes) (o .channels)) store out
 -- the answer is the message's number in its 14 bits
-effect (call.taking _ channel message) i l store out =
-    changes (sendingOf l channel .taken % modulus ∷ []) (tookLine l channel (length message)) (tookStore l i channel message store) out
-effect (call.sending _ channel rank) i l store out = writes false (heldPacket l i channel (heldIn (ranked l channel rank)) store) (wroteLine l) store out
-effect (call.empty _ channel) i l store out = writes false (emptyPacket l channel) (wroteLine l) store out
+effect (call.taking _ channel message) i l start store out =
+    changes (sendingOf l channel .taken % modulus ∷ []) (tookLine l channel (length message)) (tookStore l start channel message store) out
+effect (call.sending _ channel rank) i l start store out =
+    let part = partAt start (partLength l) store in
+    writes false (heldPacket l channel (heldIn (ranked l channel rank)) part) (wroteLine l) store out
+effect (call.empty _ channel) i l start store out = writes false (emptyPacket l channel) (wroteLine l) store out
 -- the answer is the line that the packet was for
-effect (call.arrival s) i l store out = changes (i ∷ []) (arrivedLine l s) (arrivedStore l i s store) out
-effect (call.handOut _ channel) i l store out = writes false (handedOctets l i channel store) (handedLine l channel) store out
-effect (call.report _ channel) i l store out = changes (heldCount (sendingOf l channel) ∷ []) l store out
+effect (call.arrival s) i l start store out =
+    changes (i ∷ []) (arrivedLine l s) (arrivedStore l start s store) out
+effect (call.handOut _ channel) i l start store out =
+    let part = partAt start (partLength l) store in
+    writes false (handedOctets l channel part) (handedLine l channel) store out
+effect (call.report _ channel) i l start store out = changes (heldCount (sendingOf l channel) ∷ []) l store out
 
 -- An accepted call puts its line back into the book, whatever call it is, and closing puts the identifier to rest.
 unfoldable pub acceptedResult : Call → Book → List ℕ → List ℕ → CallResult
 acceptedResult c b store out =
     let i = lineFor c b in
-    let e = effect c i (lineOf b i) store out in
+    let e = effect c i (lineOf b i) (partStart b i) store out in
     resultWith (accepted (e .values)) (pick (e .rests) (closedAt b i) (withLine b i (e .line))) (e .store) (e .out)
 
 -- The first refusal of the call's order decides. "Each refusal returns its number alone and changes neither book nor any octet."

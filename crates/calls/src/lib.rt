@@ -15,7 +15,7 @@ use ground::Verdict;
 use ground::WriteAnswer;
 use line::Line;
 use line::Settings;
-use store::Region;
+use slip::Slip;
 
 // What a call leaves that writes into an output: how many octets were written there.
 pub struct Written {
@@ -39,12 +39,12 @@ pub fn line_verdict(book: Book, line: u8) -> Verdict
 
 // BOOK, ROOM for the store.
 pub fn store_verdict(book: Book, store: usize) -> Verdict
-    ensures { λ r. ⌜ r ≡ verdict (fitBook book ∷ roomy store ∷ []) ⌝ }
+    ensures { λ r. ⌜ r ≡ verdict (fitBook book ∷ roomy book store ∷ []) ⌝ }
 {
     if !book.fits() {
         return Verdict::Refuse(Refusal::BOOK);
     }
-    if Region::LENGTH <= store {
+    if Book::STORE <= store {
         Verdict::Pass
     } else {
         Verdict::Refuse(Refusal::ROOM)
@@ -53,7 +53,7 @@ pub fn store_verdict(book: Book, store: usize) -> Verdict
 
 // BOOK, ROOM for the store, RANGE for the line.
 pub fn store_line_verdict(book: Book, store: usize, line: u8) -> Verdict
-    ensures { λ r. ⌜ r ≡ verdict (fitBook book ∷ roomy store ∷ lineNumber line ∷ []) ⌝ }
+    ensures { λ r. ⌜ r ≡ verdict (fitBook book ∷ roomy book store ∷ lineNumber line ∷ []) ⌝ }
 {
     let earlier = store_verdict(book, store);
     match earlier {
@@ -105,7 +105,7 @@ pub fn may_close(book: Book, line: u8, space: usize) -> Verdict
     match earlier {
         Verdict::Refuse(r) => Verdict::Refuse(r),
         Verdict::Pass => {
-            if 12 <= space {
+            if Slip::LENGTH <= space {
                 Verdict::Pass
             } else {
                 Verdict::Refuse(Refusal::ROOM)

@@ -13,6 +13,10 @@ modulus = 16384
 abbrev pub cap : ℕ
 cap = 16777215
 
+-- "A message has 1 to 132 octets" (RULES 3.4)
+abbrev pub largest : ℕ
+largest = 132
+
 -- the window of channel 1, and of channel 2 (RULES 3.2)
 abbrev pub windowOf : ℕ → ℕ
 windowOf number = pick (eqb number 1) 32 8

@@ -10,7 +10,7 @@ use Rattle.ground.specs.Every.{every}
 use Rattle.channel.specs.Distance.{placeOf}
 use Rattle.places.specs.Places.{bitOf}
 
--- "A message has 1 to 132 octets" (RULES 3.4); z stands for 132
+-- a message has 1 octet at the least, and z at the most (RULES 3.4)
 abbrev pub sizeFits : ℕ → ℕ → Bool
 sizeFits z size = ltb 0 size && leb size z
 

@@ -2,11 +2,11 @@
 // messages are held or stored. A message lies at the place of its number less the window as often as that goes, as the library has
 // it, which `first` says of h and of R.
 ghost use Prim.Native.Nat.{_≤_, _<_};
+use channel::Channel;
 use line::Line;
 use places::Places;
 use receiving::Receiving;
 use sending::Sending;
-use store::Region;
 use store::Way;
 use words::Arguments;
 
@@ -136,40 +136,42 @@ pub fn set(l: Line, a: Arguments) -> Line {
     l.with_receiving(channel, with_received(side, channel, a))
 }
 
-// How many of a message's octets are put into its slot: at most 132 of those that there are.
+// How many of a message's octets are put into its slot: at most the largest message's of those that there are.
 fn kept(size: usize, most: usize) -> usize
     ensures { λ r. ⌜ r ≤ most ⌝ }
 {
-    if most < 132 {
+    let largest = Channel::LARGEST as usize;
+    if most < largest {
         return most;
     }
-    if size < 132 {
+    if size < largest {
         return size;
     }
-    132
+    largest
 }
 
-// Where the slot of a place begins in the store.
-fn slot_at(i: u8, way: Way, channel: u8, place: u32) -> usize
-    requires { ⌜ place < 32 ⌝ }
+// The way that the part named speaks of.
+fn way(call: u8) -> Way {
+    if call <= HELD {
+        return Way::Sending;
+    }
+    Way::Receiving
+}
+
+// Where the slot of the message that is named begins in the line's part of the store.
+pub fn slot(l: Line, a: Arguments) -> usize
+    ensures { λ r. ⌜ r < 65536 ⌝ }
 {
-    Region::of(i & 3, way, channel).slot(place)
-}
-
-// Puts the octets of a message into the slot of its place.
-fn lay(i: u8, way: Way, a: Arguments, store: &mut [u8], octets: &[u8]) {
     let channel = a.octet(0);
-    let at = slot_at(i, way, channel, less(channel, a.full(1)));
-    let size = kept(a.size, octets.len());
-    words::put(store, at, &octets[0..size]);
+    let region = l.region(way(a.call), channel);
+    region.slot(less(channel, a.full(1)))
 }
 
-// Puts the octets of a message that is to be held or stored into its slot.
-pub fn put(i: u8, a: Arguments, store: &mut [u8], octets: &[u8]) {
+// Puts the octets of a message that is to be held or stored into its slot, which begins at octet `at` of the store.
+pub fn put(a: Arguments, at: usize, store: &mut [u8], octets: &[u8]) {
     let call = a.call;
-    match call {
-        HELD => lay(i, Way::Sending, a, store, octets),
-        STORED => lay(i, Way::Receiving, a, store, octets),
-        _ => {}
+    if (call == HELD) | (call == STORED) {
+        let size = kept(a.size, octets.len());
+        words::put(store, at, &octets[0..size]);
     }
 }

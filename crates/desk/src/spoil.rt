@@ -52,11 +52,19 @@ fn oldest(book: Book, i: u8, a: Arguments) -> u32 {
     sides::oldest(book.line(i), a)
 }
 
+// Where the slot of the message that is named begins in the store.
+fn slot_at(book: Book, i: u8, a: Arguments) -> usize {
+    if 3 < i {
+        return 0;
+    }
+    book.part_start(i) + sides::slot(book.line(i), a)
+}
+
 // Sets the part that is named.
 pub fn spoil(seat: Seat, i: u8, a: Arguments, store: &mut [u8], octets: &[u8]) -> Seat {
     if !sides::in_reach(oldest(seat.book, i, a), a) {
         return seat.no_call(answer::OUT_OF_REACH);
     }
-    sides::put(i, a, store, octets);
+    sides::put(a, slot_at(seat.book, i, a), store, octets);
     seat.with(spoilt(seat.book, i, a), Reply::Text(answer::OK))
 }

@@ -19,16 +19,17 @@ use Rattle.flow.proofs.Keeps.{receiving-ok}
 use Rattle.places.specs.Places.{widest}
 use Rattle.mode.specs.Moved.{ended}
 use Rattle.line.specs.Line.{isOpen}
-use Rattle.line.specs.Fit.{largest, lineFits}
+use Rattle.line.specs.Fit.{lineFits}
+use Rattle.line.specs.Figures.{receiveWindow, receiveLargest}
 use Rattle.line.specs.declared.Line.{Line}
 use Rattle.line.proofs.Keeps.{line-ok}
 use Rattle.calls.specs.Parts.{closeTests}
 use Rattle.calls.specs.Result.{slipOf}
 
 -- "handed out at most as many": a count has its 24 bits
-counted : (w : ℕ) (r : Receiving) → w ≤ widest → receivingFits w largest r ≡ true → ltb (r .next) 16777216 ≡ true
-counted w r narrow f =
-    let k = receiving-ok w largest r narrow f in
+counted : (w z : ℕ) (r : Receiving) → w ≤ widest → receivingFits w z r ≡ true → ltb (r .next) 16777216 ≡ true
+counted w z r narrow f =
+    let k = receiving-ok w z r narrow f in
     lt-ltb (r .next) 16777216 (omega (arith, k .capped))
 
 flag : (t : Bool) → leb (bit t) 1 ≡ true
@@ -43,7 +44,7 @@ slip-fits l o f =
     let i : l .identifier ≤ 127 = leb-true _ _ (s .0) in
     let t : l .kind ≤ 127 = leb-true _ _ (s .1 .1 .0) in
     together (ltb (l .identifier) 128 ∷ leb 96 (l .kind) ∷ ltb (l .kind) 128 ∷ ltb (l .receiving1 .next) 16777216 ∷ ltb (l .receiving2 .next) 16777216 ∷ leb (bit (ended (l .modes))) 1 ∷ [])
-    (lt-ltb (l .identifier) 128 (omega arith), (s .1 .0, (lt-ltb (l .kind) 128 (omega arith), (counted 32 (l .receiving1) (lit≤ tt) (k .receiving1), (counted 8 (l .receiving2) (lit≤ tt) (k .receiving2), (flag (ended (l .modes)), tt))))))
+    (lt-ltb (l .identifier) 128 (omega arith), (s .1 .0, (lt-ltb (l .kind) 128 (omega arith), (counted (receiveWindow l 1) (receiveLargest l) (l .receiving1) (lit≤ tt) (k .receiving1), (counted (receiveWindow l 2) (receiveLargest l) (l .receiving2) (lit≤ tt) (k .receiving2), (flag (ended (l .modes)), tt))))))
 
 -- so closing writes it
 pub slip-passes : (l : Line) (space : ℕ) → lineFits l ≡ true → verdict (closeTests l space) ≡ Pass → verdict (writeTests (slipOf l) space) ≡ Pass

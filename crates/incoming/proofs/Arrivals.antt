@@ -2,7 +2,6 @@
 -- Assumes nothing.
 use Prim.Native.Nat.{ℕ, _<_}
 use mathlib.Core.Path.{_≡_, refl, sym, ap, _∙_}
-use mathlib.Core.Bool.{true}
 use mathlib.Core.List.{List, [], _∷_}
 use native.Mathlib.Omega.{arith}
 use lib.ListN.{length}
@@ -12,8 +11,11 @@ use Rattle.ground.specs.declared.Refusal.the-variants.{NOLINE}
 use Rattle.ground.specs.declared.Verdict.{Verdict}
 use Rattle.ground.specs.declared.Verdict.the-variants.{Pass, Refuse}
 use Rattle.ground.proofs.Settled.{verdict-of-answer}
-use Rattle.ground.proofs.Verdicts.{passed, verdict-on, verdict-stop, pass-both}
-use Rattle.packet.specs.Read.{headAt, headTests, headRead}
+use Rattle.ground.proofs.Verdicts.{verdict-on, verdict-stop}
+use Rattle.packet.specs.Read.{headAt, acksAt, headTests, headRead}
+use Rattle.packet.specs.declared.Acks.{Acks}
+use Rattle.packet.specs.declared.AcksReading.{AcksReading}
+use Rattle.packet.specs.declared.AcksReading.the-variants as acks
 use Rattle.packet.specs.declared.Head.{Head}
 use Rattle.packet.specs.declared.HeadReading.{HeadReading}
 use Rattle.packet.specs.declared.HeadReading.the-variants as head
@@ -21,28 +23,20 @@ use Rattle.arriving.specs.Arrive.{arriveTests}
 use Rattle.book.specs.Book.{lineOf}
 use Rattle.book.specs.declared.Book.{Book}
 use Rattle.book.proofs.OneOwner.{whose-at}
-use Rattle.book.specs.declared.Owner.{Owner}
 use Rattle.book.specs.declared.Owner.the-variants.{At, Nobody}
 use Rattle.calls.specs.Order.{packetLine, isSomebody, lineAt}
 use Rattle.calls.specs.Parts.{addressTests, arrivalTests}
+use Rattle.incoming.specs.Reading.{arrivingAt}
 use Rattle.incoming.specs.declared.ArriveVerdict.{ArriveVerdict}
 use Rattle.incoming.specs.declared.ArriveVerdict.the-variants as may
 
-abbrev pub whyHead : HeadReading → Verdict
+abbrev whyHead : HeadReading → Verdict
 whyHead (head.Says h) = Pass
 whyHead (head.Refused r) = Refuse r
 
 abbrev headIn : Head → HeadReading → Head
 headIn d (head.Says h) = h
 headIn d (head.Refused r) = d
-
-abbrev pub whyMay : ArriveVerdict → Verdict
-whyMay (may.At i) = Pass
-whyMay (may.Refused r) = Refuse r
-
-abbrev lineIn : ArriveVerdict → ℕ
-lineIn (may.At i) = i
-lineIn (may.Refused r) = 0
 
 -- what a head's reading says of its tests
 module _ (s : List ℕ) {r : HeadReading} (e : r ≡ headRead s) where
@@ -60,60 +54,61 @@ module _ (s : List ℕ) {r : HeadReading} (e : r ≡ headRead s) where
       let q : headRead s ≡ head.Says (headAt s) = ap (λ (v : Verdict). settle v head.Refused (head.Says (headAt s))) (head-passes p) in
       ap (headIn (headAt s)) (sym p ∙ e ∙ q)
 
+-- what a line's tests settle on
+abbrev pub arrivesAt : ℕ → List ℕ → Verdict → ArriveVerdict
+arrivesAt i s v = settle v may.Refused (may.Packet (arrivingAt i s))
+
+-- what the line answers, the list's reading or a refusal, tells its verdict
+abbrev acksIn : Acks → AcksReading → Acks
+acksIn d (acks.Says a) = a
+acksIn d (acks.Refused r) = d
+
+module _ (i : ℕ) (s : List ℕ) (v : Verdict) {r : AcksReading} (e : r ≡ settle v acks.Refused (acks.Says (acksAt s))) where
+  pub reading-refuses : {x : Refusal} → r ≡ acks.Refused x → may.Refused x ≡ arrivesAt i s v
+  reading-refuses {x} p = go v e
+    where
+      go : (w : Verdict) → r ≡ settle w acks.Refused (acks.Says (acksAt s)) → may.Refused x ≡ arrivesAt i s w
+      go Pass q = absurd (let y : acks.Says (acksAt s) ≡ acks.Refused x = sym q ∙ p in let z : _≡_ {A = ℕ} 0 1 = cc in omega arith)
+      go (Refuse y) q = let f : acks.Refused y ≡ acks.Refused x = sym q ∙ p in cc
+
+  pub reading-says : {h : Head} {a : Acks} → h ≡ headAt s → r ≡ acks.Says a → may.Packet (record { line = i; head = h; acks = a }) ≡ arrivesAt i s v
+  reading-says {h} {a} k p = go v e
+    where
+      go : (w : Verdict) → r ≡ settle w acks.Refused (acks.Says (acksAt s)) → may.Packet (record { line = i; head = h; acks = a }) ≡ arrivesAt i s w
+      go Pass q = let f : a ≡ acksAt s = ap (acksIn (acksAt s)) (sym p ∙ q) in λ t. may.Packet (record { line = i; head = k t; acks = f t })
+      go (Refuse y) q = absurd (let f : acks.Refused y ≡ acks.Says a = sym q ∙ p in let z : _≡_ {A = ℕ} 0 1 = cc in omega arith)
+
 module _ (b : Book) (s : List ℕ) where
-  abbrev pub addressed : ArriveVerdict
-  addressed = settle (verdict (addressTests b s)) may.Refused (may.At (lineAt (packetLine b s)))
+  abbrev pub arrives : Verdict → ArriveVerdict
+  arrives = arrivesAt (lineAt (packetLine b s)) s
 
   abbrev last : List Test
   last = must (isSomebody (packetLine b s)) NOLINE ∷ []
 
-  pub address-refused : {x : Refusal} → verdict (headTests s) ≡ Refuse x → may.Refused x ≡ addressed
-  unfolding addressTests
-  address-refused e = sym (ap (λ (v : Verdict). settle v may.Refused (may.At (lineAt (packetLine b s)))) (verdict-stop (headTests s) last e))
+  abbrev asks : List Test
+  asks = arriveTests (lineOf b (lineAt (packetLine b s))) s
+
+  -- the head is refused
+  pub arrival-refused : {x : Refusal} → verdict (headTests s) ≡ Refuse x → may.Refused x ≡ arrives (verdict (arrivalTests b s))
+  unfolding arrivalTests addressTests
+  arrival-refused e = ap arrives (sym (verdict-stop (addressTests b s) asks (verdict-stop (headTests s) last e)))
 
   module _ (e : verdict (headTests s) ≡ Pass) where
-    pub address-at : {i : ℕ} → packetLine b s ≡ At i → may.At i ≡ addressed
-    unfolding addressTests
-    address-at p = sym (ap (λ (v : Verdict). settle v may.Refused (may.At (lineAt (packetLine b s)))) (verdict-on (headTests s) last e) ∙ simp p)
+    -- no open line has the identifier
+    pub arrival-nobody : packetLine b s ≡ Nobody → may.Refused NOLINE ≡ arrives (verdict (arrivalTests b s))
+    unfolding arrivalTests addressTests
+    arrival-nobody p =
+        let f : verdict (addressTests b s) ≡ Refuse NOLINE = verdict-on (headTests s) last e ∙ simp p in
+        ap arrives (sym (verdict-stop (addressTests b s) asks f))
 
-    pub address-nobody : packetLine b s ≡ Nobody → may.Refused NOLINE ≡ addressed
-    unfolding addressTests
-    address-nobody p = sym (ap (λ (v : Verdict). settle v may.Refused (may.At (lineAt (packetLine b s)))) (verdict-on (headTests s) last e) ∙ simp p)
+    -- one has it, and its tests decide
+    pub arrival-at : {i : ℕ} → packetLine b s ≡ At i → arrivesAt i s (verdict (arriveTests (lineOf b i) s)) ≡ arrives (verdict (arrivalTests b s))
+    unfolding arrivalTests addressTests
+    arrival-at p =
+        let f : verdict (addressTests b s) ≡ Pass = verdict-on (headTests s) last e ∙ simp p in
+        let g = ap lineAt (sym p) in
+        (λ t. arrivesAt (g t) s (verdict (arriveTests (lineOf b (g t)) s))) ∙ ap arrives (sym (verdict-on (addressTests b s) asks f))
 
-  -- what it was settled on tells the tests
-  module _ {r : ArriveVerdict} (e : r ≡ addressed) where
-    address-verdict : verdict (addressTests b s) ≡ whyMay r
-    address-verdict = verdict-of-answer whyMay (verdict (addressTests b s)) e (λ x. refl) refl
-
-    pub addressed-refused : {x : Refusal} → r ≡ may.Refused x → verdict (addressTests b s) ≡ Refuse x
-    addressed-refused p = address-verdict ∙ ap whyMay p
-
-    module _ {i : ℕ} (p : r ≡ may.At i) where
-      pub addressed-passes : verdict (addressTests b s) ≡ Pass
-      addressed-passes = address-verdict ∙ ap whyMay p
-
-      pub addressed-line : i ≡ lineAt (packetLine b s)
-      addressed-line = ap lineIn (sym p ∙ e ∙ ap (λ (v : Verdict). settle {A = ArriveVerdict} v may.Refused (may.At (lineAt (packetLine b s)))) addressed-passes)
-
-      pub addressed-owner : packetLine b s ≡ At i
-      unfolding addressTests
-      addressed-owner =
-          go (packetLine b s) (passed last (pass-both (headTests s) last addressed-passes .1) .0) addressed-line
-        where
-          go : (w : Owner) → isSomebody w ≡ true → i ≡ lineAt w → w ≡ At i
-          go (At j) t q = ap At (sym q)
-          go Nobody t q = absurd (let z : _≡_ {A = ℕ} 0 1 = cc in omega arith)
-
-      pub addressed-in : i < length (b .lines)
-      addressed-in = whose-at b (headAt s .identifier) i addressed-owner .0
-
-      pub arrival-on : verdict (arrivalTests b s) ≡ verdict (arriveTests (lineOf b i) s)
-      unfolding arrivalTests
-      arrival-on = verdict-on (addressTests b s) (arriveTests (lineOf b (lineAt (packetLine b s))) s) addressed-passes ∙ ap (λ (j : ℕ). verdict (arriveTests (lineOf b j) s)) (sym addressed-line)
-
-    pub arrival-stop : {x : Refusal} → r ≡ may.Refused x → verdict (arrivalTests b s) ≡ Refuse x
-    unfolding arrivalTests
-    arrival-stop p = verdict-stop (addressTests b s) (arriveTests (lineOf b (lineAt (packetLine b s))) s) (addressed-refused p)
-
-  abbrev pub arrives : Verdict → ArriveVerdict
-  arrives v = settle v may.Refused (may.At (lineAt (packetLine b s)))
+  -- the line that has it is one of the book's
+  pub arrival-in : {i : ℕ} → packetLine b s ≡ At i → i < length (b .lines)
+  arrival-in {i} p = whose-at b (headAt s .identifier) i p .0

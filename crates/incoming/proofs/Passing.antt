@@ -19,13 +19,15 @@ use Rattle.receiving.specs.Receiving.{nextSize}
 use Rattle.line.specs.Fit.{lineFits}
 use Rattle.line.specs.Line.{isOpen, receivingOf}
 use Rattle.line.specs.declared.Line.{Line}
-use Rattle.store.specs.Store.{regionOf, slotAt}
+use Rattle.line.specs.Part.{partLength, regionOf}
+use Rattle.line.proofs.Part.{region-size}
+use Rattle.store.specs.Store.{slotAt}
 use Rattle.store.specs.declared.Way.the-variants.{Receiving}
-use Rattle.store.proofs.Slots.{slot-end}
 use Rattle.relay.specs.HandOut.{handCallTests, handedOctets}
-use Rattle.relay.proofs.Lines.{region-size, slot-there, hand-reliable, hand-steps, hand-size}
+use Rattle.relay.proofs.Lines.{slot-in, hand-reliable, hand-steps, hand-size}
 use Rattle.arriving.specs.Arrive.{arriveTests}
 use Rattle.book.specs.Book.{bookFits, lineOf}
+use Rattle.book.specs.Parts.{storeLength}
 use Rattle.book.specs.declared.Book.{Book}
 use Rattle.book.specs.declared.Owner.{Owner}
 use Rattle.book.specs.declared.Owner.the-variants.{At, Nobody}
@@ -34,21 +36,23 @@ use Rattle.book.proofs.OneOwner.{whose-at}
 use Rattle.calls.specs.Order.{arriveOrder, packetLine, isSomebody, lineAt}
 use Rattle.calls.specs.Parts.{fitBook, roomy, addressTests, arrivalTests}
 use Rattle.calls.proofs.OrderParts.{arrive-parts}
+use Rattle.incoming.specs.Reading.{arrivingAt}
+use Rattle.incoming.specs.declared.Arriving.{Arriving}
 use Rattle.incoming.specs.declared.ArriveVerdict.{ArriveVerdict}
 use Rattle.incoming.specs.declared.ArriveVerdict.the-variants as arrives
 
 abbrev whyArrive : ArriveVerdict → Verdict
-whyArrive (arrives.At i) = Pass
+whyArrive (arrives.Packet a) = Pass
 whyArrive (arrives.Refused r) = Refuse r
 
-abbrev lineOr : ArriveVerdict → ℕ
-lineOr (arrives.At i) = i
-lineOr (arrives.Refused r) = 0
+abbrev packetOr : Arriving → ArriveVerdict → Arriving
+packetOr d (arrives.Packet a) = a
+packetOr d (arrives.Refused r) = d
 
 -- a packet's line and what it passed there
 pub record Addressed (b : Book) (n : ℕ) (s : List ℕ) (i : ℕ) : Type 0 where
   pub book : bookFits b ≡ true
-  pub store : 42240 ≤ n
+  pub store : storeLength b ≤ n
   pub owner : packetLine b s ≡ At i
   pub number : i < length (b .lines)
   pub opened : isOpen (lineOf b i) ≡ true
@@ -56,44 +60,57 @@ pub record Addressed (b : Book) (n : ℕ) (s : List ℕ) (i : ℕ) : Type 0 wher
   pub head : verdict (headTests s) ≡ Pass
   pub line : verdict (arriveTests (lineOf b i) s) ≡ Pass
 
-pub addressed : (b : Book) (n : ℕ) (s : List ℕ) → verdict (fitBook b ∷ roomy n ∷ arrivalTests b s) ≡ Pass → Addressed b n s (lineAt (packetLine b s))
-unfolding arrivalTests addressTests
-addressed b n s e =
-    let i = lineAt (packetLine b s) in
-    let p = pass-both (fitBook b ∷ roomy n ∷ []) (arrivalTests b s) e in
-    let t = passed (fitBook b ∷ roomy n ∷ []) (p .0) in
-    let q = pass-both (addressTests b s) (arriveTests (lineOf b i) s) (p .1) in
-    let h = pass-both (headTests s) (must (isSomebody (packetLine b s)) NOLINE ∷ []) (q .0) in
-    let o = somebody (packetLine b s) (passed (must (isSomebody (packetLine b s)) NOLINE ∷ []) (h .1) .0) in
-    let w = whose-at b (headAt s .identifier) i o in
-    record { book = t .0; store = leb-true _ _ (t .1 .0); owner = o; number = w .0; opened = w .1; fits = line-fits b (t .0) i; head = h .0; line = q .1 }
+-- a packet whose address passes has its owner
+pub address-owner : (b : Book) (s : List ℕ) → verdict (addressTests b s) ≡ Pass → packetLine b s ≡ At (lineAt (packetLine b s))
+unfolding addressTests
+address-owner b s e =
+    let h = pass-both (headTests s) (must (isSomebody (packetLine b s)) NOLINE ∷ []) e in
+    somebody (packetLine b s) (passed (must (isSomebody (packetLine b s)) NOLINE ∷ []) (h .1) .0)
   where
     somebody : (w : Owner) → isSomebody w ≡ true → w ≡ At (lineAt w)
     somebody (At j) t = refl
     somebody Nobody t = absurd (let z : _≡_ {A = ℕ} 0 1 = cc in omega arith)
 
-module _ (b : Book) (n : ℕ) (s : List ℕ) {r : ArriveVerdict} (e : r ≡ settle (verdict (arriveOrder b n s)) arrives.Refused (arrives.At (lineAt (packetLine b s)))) where
+pub addressed : (b : Book) (n : ℕ) (s : List ℕ) → verdict (fitBook b ∷ roomy b n ∷ arrivalTests b s) ≡ Pass → Addressed b n s (lineAt (packetLine b s))
+unfolding arrivalTests addressTests
+addressed b n s e =
+    let i = lineAt (packetLine b s) in
+    let p = pass-both (fitBook b ∷ roomy b n ∷ []) (arrivalTests b s) e in
+    let t = passed (fitBook b ∷ roomy b n ∷ []) (p .0) in
+    let q = pass-both (addressTests b s) (arriveTests (lineOf b i) s) (p .1) in
+    let h = pass-both (headTests s) (must (isSomebody (packetLine b s)) NOLINE ∷ []) (q .0) in
+    let o = address-owner b s (q .0) in
+    let w = whose-at b (headAt s .identifier) i o in
+    record { book = t .0; store = leb-true _ _ (t .1 .0); owner = o; number = w .0; opened = w .1; fits = line-fits b (t .0) i; head = h .0; line = q .1 }
+
+module _ (b : Book) (n : ℕ) (s : List ℕ) {r : ArriveVerdict} (e : r ≡ settle (verdict (arriveOrder b n s)) arrives.Refused (arrives.Packet (arrivingAt (lineAt (packetLine b s)) s))) where
   pub arrive-refuses : {x : Refusal} → r ≡ arrives.Refused x → verdict (arriveOrder b n s) ≡ Refuse x
   arrive-refuses p = verdict-of-answer whyArrive (verdict (arriveOrder b n s)) e (λ x. refl) refl ∙ ap whyArrive p
 
-  module _ {i : ℕ} (p : r ≡ arrives.At i) where
+  module _ {a : Arriving} (p : r ≡ arrives.Packet a) where
     pub arrive-passes : verdict (arriveOrder b n s) ≡ Pass
     arrive-passes = verdict-of-answer whyArrive (verdict (arriveOrder b n s)) e (λ x. refl) refl ∙ ap whyArrive p
 
-    pub arrive-line : lineAt (packetLine b s) ≡ i
-    arrive-line = sym (ap lineOr (sym p ∙ e ∙ ap (λ (v : Verdict). settle {A = ArriveVerdict} v arrives.Refused (arrives.At (lineAt (packetLine b s)))) arrive-passes))
+    -- what was read is what the octets say
+    pub arrive-is : a ≡ arrivingAt (lineAt (packetLine b s)) s
+    arrive-is =
+        ap (packetOr (arrivingAt (lineAt (packetLine b s)) s))
+        (sym p ∙ e ∙ ap (λ (v : Verdict). settle {A = ArriveVerdict} v arrives.Refused (arrives.Packet (arrivingAt (lineAt (packetLine b s)) s))) arrive-passes)
 
-    pub arrive-addressed : Addressed b n s i
+    pub arrive-line : lineAt (packetLine b s) ≡ a .line
+    arrive-line = sym (ap (λ (x : Arriving). x .line) arrive-is)
+
+    pub arrive-addressed : Addressed b n s (a .line)
     arrive-addressed = rw arrive-line at (addressed b n s (sym (ap verdict (arrive-parts b n s)) ∙ arrive-passes))
 
 -- the message handed out has as many octets as its size says
-pub handed-length : (l : Line) (i channel slot : ℕ) (store : List ℕ) → lineFits l ≡ true → i < 4 → 42240 ≤ length store → verdict (handCallTests l channel slot) ≡ Pass
-    → length (handedOctets l i channel store) ≡ nextSize (receivingOf l channel)
-handed-length l i channel slot store fits number large e =
-    let g = regionOf i Receiving channel in
+pub handed-length : (l : Line) (channel space : ℕ) (part : List ℕ) → lineFits l ≡ true → partLength l ≤ length part → verdict (handCallTests l channel space) ≡ Pass
+    → length (handedOctets l channel part) ≡ nextSize (receivingOf l channel)
+handed-length l channel space part fits large e =
+    let g = regionOf l Receiving channel in
     let p = receivingOf l channel .origin in
-    let r = slot-there i Receiving channel p (length store) number (hand-reliable l fits channel slot e) (hand-steps l fits channel slot e .placed) large in
-    let z = region-size i Receiving channel in
-    let m = hand-size l fits channel slot e in
-    let d = length-drop (slotAt g p) store in
-    length-take (nextSize (receivingOf l channel)) (drop (slotAt g p) store) ∙ omega (arith, slot-end g p (r .placed), r .inside, z, m, d)
+    let r = slot-in l Receiving channel p (length part) (hand-reliable l fits channel space e) (hand-steps l fits channel space e .placed) large in
+    let z = region-size l Receiving channel in
+    let m = hand-size l fits channel space e in
+    let d = length-drop (slotAt g p) part in
+    length-take (nextSize (receivingOf l channel)) (drop (slotAt g p) part) ∙ omega (arith, r .inside, z, m, d)

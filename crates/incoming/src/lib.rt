@@ -12,12 +12,21 @@ use calls::Written;
 use ground::Refusal;
 use ground::Verdict;
 use ground::WriteAnswer;
+use packet::Acks;
+use packet::Head;
 
 mod verdicts; // verdicts.rt: what refuses them
 
-// May a packet arrive, and at which line?
+// A packet that may arrive: the line that it is for, and what was read of it on the way.
+pub struct Arriving {
+    pub line: u8,
+    pub head: Head,
+    pub acks: Acks,
+}
+
+// The packet that may arrive, or why it may not.
 pub enum ArriveVerdict {
-    At(u8),
+    Packet(Arriving),
     Refused(Refusal),
 }
 
@@ -43,12 +52,15 @@ pub fn arrive(book: Book, store: &mut [u8], packet: &[u8]) -> Arrived
             book,
             answer: ArriveAnswer::Refused(r),
         },
-        ArriveVerdict::At(line) => {
-            let arrived = arriving::arrive(book.line(line), line, store, packet);
-            let next = book.with_line(line, arrived);
+        ArriveVerdict::Packet(a) => {
+            let l = book.line(a.line);
+            let start = book.part_start(a.line);
+            let end = start + l.part_length();
+            let arrived = arriving::arrive(l, &mut store[start..end], a.head, a.acks, packet);
+            let next = book.with_line(a.line, arrived);
             Arrived {
                 book: next,
-                answer: ArriveAnswer::At(line),
+                answer: ArriveAnswer::At(a.line),
             }
         }
     }
@@ -68,7 +80,9 @@ pub fn hand_out(book: Book, store: &[u8], line: u8, channel: u8, out: &mut [u8])
         Verdict::Pass => {
             let l = book.line(line);
             let size = l.receiving(channel).next_size() as usize;
-            let handed = relay::hand_out(l, line, store, channel, out);
+            let start = book.part_start(line);
+            let end = start + l.part_length();
+            let handed = relay::hand_out(l, &store[start..end], channel, out);
             let next = book.with_line(line, handed);
             Written {
                 book: next,

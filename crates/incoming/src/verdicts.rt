@@ -3,13 +3,21 @@
 ghost use mathlib.Core.Path.{_≡_};
 ghost use Rattle.ground.specs.Refusal.{verdict, settle};
 ghost use Rattle.calls.specs.Order.{handOutOrder, arriveOrder, packetLine, lineAt};
-ghost use Rattle.calls.specs.Parts.{addressTests, arrivalTests};
+ghost use Prim.Native.Nat.{_<_};
+ghost use Rattle.packet.specs.Read.{headAt};
+ghost use Rattle.arriving.specs.Arrive.{arriveTests};
+ghost use Rattle.book.specs.Book.{lineOf};
+ghost use Rattle.calls.specs.Parts.{arrivalTests};
+ghost use Rattle.incoming.specs.Reading.{arrivingAt};
 ghost use Rattle.incoming.specs.declared.ArriveVerdict.{ArriveVerdict};
 use crate::ArriveVerdict;
+use crate::Arriving;
 use book::Book;
 use book::Owner;
 use ground::Refusal;
 use ground::Verdict;
+use packet::AcksReading;
+use packet::Head;
 use packet::HeadReading;
 
 // May message R be handed out into `space` octets?
@@ -23,35 +31,30 @@ pub fn may_hand_out(book: Book, store: usize, line: u8, channel: u8, space: usiz
     }
 }
 
-// The open line that a packet is for: SHORT for 6 octets, FORM, NOLINE.
-fn addressed(book: Book, s: &[u8]) -> ArriveVerdict
-    ensures { λ r. ⌜ r ≡ settle (verdict (addressTests book (now (s .entry)))) ArriveVerdict.Refused (ArriveVerdict.At (lineAt (packetLine book (now (s .entry))))) ⌝ }
+// May a packet arrive at a line: TYPE, MODE, SHORT for the list, CHANNEL, SIZE.
+fn may_arrive_at(book: Book, line: u8, head: Head, s: &[u8]) -> ArriveVerdict
+    requires { ⌜ (line < 4) × (head ≡ headAt (now s)) ⌝ }
+    ensures { λ r. ⌜ r ≡ settle (verdict (arriveTests (lineOf book line) (now (s .entry)))) ArriveVerdict.Refused (ArriveVerdict.Packet (arrivingAt line (now (s .entry)))) ⌝ }
 {
-    let head = packet::read_head(s);
-    match head {
-        HeadReading::Refused(r) => ArriveVerdict::Refused(r),
-        HeadReading::Says(h) => {
-            let owner = book.owner_of(h.identifier);
-            match owner {
-                Owner::At(i) => ArriveVerdict::At(i),
-                Owner::Nobody => ArriveVerdict::Refused(Refusal::NOLINE),
-            }
-        }
+    let reading = arriving::may_arrive(book.line(line), head, s);
+    match reading {
+        AcksReading::Refused(r) => ArriveVerdict::Refused(r),
+        AcksReading::Says(acks) => ArriveVerdict::Packet(Arriving { line, head, acks }),
     }
 }
 
-// May the packet arrive at the line that it is for: TYPE, MODE, SHORT for the list, CHANNEL, SIZE, after what its address asks.
-fn may_arrive_at(book: Book, s: &[u8]) -> ArriveVerdict
-    ensures { λ r. ⌜ r ≡ settle (verdict (arrivalTests book (now (s .entry)))) ArriveVerdict.Refused (ArriveVerdict.At (lineAt (packetLine book (now (s .entry))))) ⌝ }
+// May it arrive at the open line that has its identifier? SHORT for 6 octets, FORM, NOLINE, and what that line asks.
+fn may_arrive_by(book: Book, s: &[u8]) -> ArriveVerdict
+    ensures { λ r. ⌜ r ≡ settle (verdict (arrivalTests book (now (s .entry)))) ArriveVerdict.Refused (ArriveVerdict.Packet (arrivingAt (lineAt (packetLine book (now (s .entry)))) (now (s .entry)))) ⌝ }
 {
-    let found = addressed(book, s);
-    match found {
-        ArriveVerdict::Refused(r) => ArriveVerdict::Refused(r),
-        ArriveVerdict::At(i) => {
-            let last = arriving::may_arrive(book.line(i), s);
-            match last {
-                Verdict::Refuse(r) => ArriveVerdict::Refused(r),
-                Verdict::Pass => ArriveVerdict::At(i),
+    let reading = packet::read_head(s);
+    match reading {
+        HeadReading::Refused(r) => ArriveVerdict::Refused(r),
+        HeadReading::Says(head) => {
+            let owner = book.owner_of(head.identifier);
+            match owner {
+                Owner::At(i) => may_arrive_at(book, i, head, s),
+                Owner::Nobody => ArriveVerdict::Refused(Refusal::NOLINE),
             }
         }
     }
@@ -59,11 +62,11 @@ fn may_arrive_at(book: Book, s: &[u8]) -> ArriveVerdict
 
 // May a packet arrive, and at which line?
 pub fn may_arrive(book: Book, store: usize, s: &[u8]) -> ArriveVerdict
-    ensures { λ r. ⌜ r ≡ settle (verdict (arriveOrder book store (now (s .entry)))) ArriveVerdict.Refused (ArriveVerdict.At (lineAt (packetLine book (now (s .entry))))) ⌝ }
+    ensures { λ r. ⌜ r ≡ settle (verdict (arriveOrder book store (now (s .entry)))) ArriveVerdict.Refused (ArriveVerdict.Packet (arrivingAt (lineAt (packetLine book (now (s .entry)))) (now (s .entry)))) ⌝ }
 {
     let earlier = calls::store_verdict(book, store);
     match earlier {
         Verdict::Refuse(r) => ArriveVerdict::Refused(r),
-        Verdict::Pass => may_arrive_at(book, s),
+        Verdict::Pass => may_arrive_by(book, s),
     }
 }

@@ -5,14 +5,11 @@ use mathlib.Core.Path.{_≡_, refl, sym, subst, _∙_}
 use mathlib.Core.Bool.{true}
 use mathlib.Core.List.{List}
 use lib.ListN.{length}
-use lib.Seq.{length-sets}
 use borrow.Author.Tests.{eqb-true, not-true}
 use Rattle.ground.specs.Refusal.{verdict}
 use Rattle.ground.specs.declared.Verdict.the-variants.{Pass}
 use Rattle.ground.proofs.Settled.{settled-by}
 use Rattle.ground.proofs.Verdicts.{passed}
-use Rattle.channel.specs.Channel.{windowOf}
-use Rattle.sending.specs.Sending.{nextPlace}
 use Rattle.mode.specs.Moved.{channelsFor}
 use Rattle.mode.specs.Acts.{Act, outcome, after}
 use Rattle.mode.specs.declared.Channels.{Channels}
@@ -22,13 +19,17 @@ use Rattle.mode.proofs.Fits.{call-keeps}
 use Rattle.mode.proofs.Emptying.{by-local}
 use Rattle.line.specs.Fit.{lineFits}
 use Rattle.line.specs.Line.{isOpen, openedLine, sendingOf}
+use Rattle.line.specs.Figures.{sendWindow}
+use Rattle.line.specs.Part.{regionIn}
 use Rattle.line.specs.Mode.{steppedTo}
 use Rattle.line.specs.Shape.{Shaped}
 use Rattle.line.specs.declared.Line.{Line}
 use Rattle.line.proofs.Keeps.{line-ok, ok-line, opened-ok, stepped-ok}
 use Rattle.line.proofs.Shape.{opened-shaped, stepped-shaped}
-use Rattle.store.specs.Store.{regionOf, slotAt}
+use Rattle.store.specs.Store.{slotAt}
 use Rattle.store.specs.declared.Way.the-variants.{Sending}
+use Rattle.sending.specs.Sending.{nextPlace}
+use lib.Seq.{length-sets}
 use Rattle.relay.specs.RelayTests.{relayChannelTests}
 use Rattle.relay.specs.Take.{takeCallTests, tookLine}
 use Rattle.relay.specs.HandOut.{handCallTests, handedLine}
@@ -41,6 +42,7 @@ use Rattle.arriving.proofs.Stays.{arrived-stays}
 use Rattle.arriving.proofs.Keeps.{arrived-line-keeps, arrived-store-length}
 use Rattle.book.specs.Book.{lineOf, withLine, bookFits}
 use Rattle.book.specs.Shape.{BookShaped}
+use Rattle.book.specs.Parts.{partStart}
 use Rattle.book.specs.declared.Book.{Book}
 use Rattle.book.proofs.Facts.{line-fits}
 use Rattle.book.proofs.Keeps.{with-line-keeps, opened-keeps, closed-keeps, with-line-shaped, closed-shaped-book}
@@ -151,21 +153,22 @@ every-call-keeps c b store out fits shaped =
     settled-by (λ (d : CallResult). Passes (d .book)) (verdict (order c b (length store) (length out))) (λ r e. (fits, shaped)) (λ e. done-keeps b fits shaped c store out (sym (in-parts c b (length store) (length out)) ∙ e))
 
 -- and the store that is lent stays as long as it was
-effect-length : (c : Call) (i : ℕ) (l : Line) (store out : List ℕ) → length (effect c i l store out .store) ≡ length store
+effect-length : (c : Call) (i : ℕ) (l : Line) (start : ℕ) (store out : List ℕ) → length (effect c i l start store out .store) ≡ length store
 unfolding effect
-effect-length (call.opening j s time) i l store out = refl
-effect-length (call.closing j) i l store out = refl
-effect-length (call.mode j a) i l store out = refl
-effect-length (call.taking j channel message) i l store out = length-sets store (slotAt (regionOf i Sending channel) (nextPlace (windowOf channel) (sendingOf l channel))) message
-effect-length (call.sending j channel rank) i l store out = refl
-effect-length (call.empty j channel) i l store out = refl
-effect-length (call.arrival s) i l store out = arrived-store-length l i s store
-effect-length (call.handOut j channel) i l store out = refl
-effect-length (call.report j channel) i l store out = refl
+effect-length (call.opening j s time) i l start store out = refl
+effect-length (call.closing j) i l start store out = refl
+effect-length (call.mode j a) i l start store out = refl
+effect-length (call.taking j channel message) i l start store out =
+    length-sets store (slotAt (regionIn start l Sending channel) (nextPlace (sendWindow l channel) (sendingOf l channel))) message
+effect-length (call.sending j channel rank) i l start store out = refl
+effect-length (call.empty j channel) i l start store out = refl
+effect-length (call.arrival s) i l start store out = arrived-store-length l start s store
+effect-length (call.handOut j channel) i l start store out = refl
+effect-length (call.report j channel) i l start store out = refl
 
 pub store-length : (c : Call) (b : Book) (store out : List ℕ) → length (resultOf c b store out .store) ≡ length store
 unfolding resultOf acceptedResult
 store-length c b store out =
     settled-by (λ (d : CallResult). length (d .store) ≡ length store) (verdict (order c b (length store) (length out)))
     (λ r e. refl)
-    (λ e. effect-length c (lineFor c b) (lineOf b (lineFor c b)) store out)
+    (λ e. effect-length c (lineFor c b) (lineOf b (lineFor c b)) (partStart b (lineFor c b)) store out)

@@ -1,14 +1,13 @@
 -- The line that an accepted call is for: one of the four, one that BOOK lets pass, and open unless the call opens it.
 -- Assumes nothing.
 use Prim.Native.Nat.{ℕ, _<_}
-use mathlib.Core.Path.{_≡_, refl, sym, ap}
+use mathlib.Core.Path.{_≡_, sym}
 use mathlib.Core.Bool.{Bool, true, false}
 use mathlib.Core.List.{List}
 use native.Mathlib.Omega.{arith}
 use lib.ListN.{length}
 use Rattle.line.specs.Line.{isOpen}
-use Rattle.ground.specs.Refusal.{verdict, settle}
-use Rattle.ground.specs.declared.Verdict.{Verdict}
+use Rattle.ground.specs.Refusal.{verdict}
 use Rattle.ground.specs.declared.Verdict.the-variants.{Pass}
 use Rattle.ground.proofs.Picks.{clash}
 use Rattle.ground.proofs.Verdicts.{passed}
@@ -27,17 +26,12 @@ use Rattle.calls.specs.Call.{Call}
 use Rattle.calls.specs.Call as call
 use Rattle.calls.specs.Order.{lineFor, packetLine, lineAt}
 use Rattle.calls.specs.Parts.{tests, openTests, closeTests, modeTests, addressTests}
-use Rattle.incoming.specs.declared.ArriveVerdict.{ArriveVerdict}
-use Rattle.incoming.specs.declared.ArriveVerdict.the-variants as may
 use Rattle.calls.proofs.FirstTests.{OnLine, line-passed, both-passed}
-use Rattle.incoming.proofs.Arrivals.{addressed-owner}
-use Rattle.incoming.proofs.Passing.{addressed}
+use Rattle.incoming.proofs.Passing.{address-owner, addressed}
 
 -- a packet finds its line, which is open, by its identifier
 pub pass-address : (b : Book) (s : List ℕ) → verdict (addressTests b s) ≡ Pass → isOpen (lineOf b (lineAt (packetLine b s))) ≡ true
-pass-address b s e =
-    let i = lineAt (packetLine b s) in
-    whose-at b (headAt s .identifier) i (addressed-owner b s {r = may.At i} (sym (ap (λ (v : Verdict). settle {A = ArriveVerdict} v may.Refused (may.At i)) e)) refl) .1
+pass-address b s e = whose-at b (headAt s .identifier) (lineAt (packetLine b s)) (address-owner b s e) .1
 
 -- one of the four, and fits
 pub pass-on : (c : Call) (b : Book) (n space : ℕ) → verdict (tests c b n space) ≡ Pass → BookShaped b → OnLine b (lineFor c b)

@@ -18,6 +18,7 @@ use Rattle.line.specs.declared.Line.{Line}
 use Rattle.book.specs.Book.{lineOf, withLine}
 use Rattle.book.specs.Closing.{closedAt}
 use Rattle.book.specs.Shape.{BookShaped}
+use Rattle.book.specs.Parts.{partStart}
 use Rattle.book.specs.declared.Book.{Book}
 use Rattle.book.proofs.OtherLines.{line-same, closed-same}
 use Rattle.calls.specs.Call.{Call}
@@ -30,17 +31,17 @@ use Rattle.calls.proofs.Results.{result-accepted}
 use Rattle.laws.proofs.LineFor.{line-number}
 
 -- a call that puts an identifier to rest leaves a closed line
-rests-closed : (c : Call) (i : ℕ) (l : Line) (store out : List ℕ) → effect c i l store out .rests ≡ true → closedLine ≡ effect c i l store out .line
+rests-closed : (c : Call) (i : ℕ) (l : Line) (start : ℕ) (store out : List ℕ) → effect c i l start store out .rests ≡ true → closedLine ≡ effect c i l start store out .line
 unfolding effect
-rests-closed (call.opening j s time) i l store out e = clash e
-rests-closed (call.closing j) i l store out e = refl
-rests-closed (call.mode j a) i l store out e = clash e
-rests-closed (call.taking j channel message) i l store out e = clash e
-rests-closed (call.sending j channel rank) i l store out e = clash e
-rests-closed (call.empty j channel) i l store out e = clash e
-rests-closed (call.arrival s) i l store out e = clash e
-rests-closed (call.handOut j channel) i l store out e = clash e
-rests-closed (call.report j channel) i l store out e = clash e
+rests-closed (call.opening j s time) i l start store out e = clash e
+rests-closed (call.closing j) i l start store out e = refl
+rests-closed (call.mode j a) i l start store out e = clash e
+rests-closed (call.taking j channel message) i l start store out e = clash e
+rests-closed (call.sending j channel rank) i l start store out e = clash e
+rests-closed (call.empty j channel) i l start store out e = clash e
+rests-closed (call.arrival s) i l start store out e = clash e
+rests-closed (call.handOut j channel) i l start store out e = clash e
+rests-closed (call.report j channel) i l start store out e = clash e
 
 module _ (c : Call) (b : Book) (store out : List ℕ) where
   abbrev its : Verdict
@@ -48,7 +49,7 @@ module _ (c : Call) (b : Book) (store out : List ℕ) where
 
   -- what the call does to the line that it is for
   abbrev pub own : Effect
-  own = effect c (lineFor c b) (lineOf b (lineFor c b)) store out
+  own = effect c (lineFor c b) (lineOf b (lineFor c b)) (partStart b (lineFor c b)) store out
 
   -- the answer's number is 0 exactly if all tests pass
   pub accepted-passes : resultOf c b store out .answer .number ≡ 0 → its ≡ Pass
@@ -84,5 +85,5 @@ module _ (c : Call) (b : Book) (store out : List ℕ) where
         let i = lineFor c b in
         ap (λ (a : Book). lineOf a i) own-book
         ∙ pick-by (λ (a : Book). lineOf a i ≡ own .line) (own .rests)
-        (λ e. closed-same b i ∙ rests-closed c i (lineOf b i) store out e)
+        (λ e. closed-same b i ∙ rests-closed c i (lineOf b i) (partStart b i) store out e)
         (λ e. line-same b k i (line-number c b store out pass k) (own .line))

@@ -31,7 +31,9 @@ use Rattle.arriving.specs.Arrive.{arriveTests}
 use Rattle.book.specs.Book.{lineOf, withLine, restingOf, bookFits, taken}
 use Rattle.book.specs.Resting.{rests, restedIn}
 use Rattle.book.specs.Closing.{closedAt}
+use Rattle.book.specs.Parts.{partStart}
 use Rattle.book.specs.declared.Book.{Book}
+use Rattle.book.proofs.Parts.{starts-same}
 use Rattle.book.specs.declared.Owner.{Owner}
 use Rattle.book.proofs.OtherLines.{line-other}
 use Rattle.book.proofs.Unread.{closed-unread, taken-unread, whose-unread}
@@ -75,29 +77,29 @@ put-closed (l ∷ ls) zero m c = c
 put-closed (l ∷ ls) (suc i) m c = put-closed ls i m c
 
 -- a call that opens looks at nothing of the line, and it puts no identifier to rest
-opening-whole : (k : Call) → opens k ≡ true → (j : ℕ) (l m : Line) (store out : List ℕ) → effect k j l store out ≡ effect k j m store out
+opening-whole : (k : Call) → opens k ≡ true → (j : ℕ) (l m : Line) (x y : ℕ) (store out : List ℕ) → effect k j l x store out ≡ effect k j m y store out
 unfolding effect
-opening-whole (call.opening i s time) o j l m store out = refl
-opening-whole (call.closing i) o j l m store out = clash o
-opening-whole (call.mode i a) o j l m store out = clash o
-opening-whole (call.taking i channel message) o j l m store out = clash o
-opening-whole (call.sending i channel rank) o j l m store out = clash o
-opening-whole (call.empty i channel) o j l m store out = clash o
-opening-whole (call.arrival s) o j l m store out = clash o
-opening-whole (call.handOut i channel) o j l m store out = clash o
-opening-whole (call.report i channel) o j l m store out = clash o
+opening-whole (call.opening i s time) o j l m x y store out = refl
+opening-whole (call.closing i) o j l m x y store out = clash o
+opening-whole (call.mode i a) o j l m x y store out = clash o
+opening-whole (call.taking i channel message) o j l m x y store out = clash o
+opening-whole (call.sending i channel rank) o j l m x y store out = clash o
+opening-whole (call.empty i channel) o j l m x y store out = clash o
+opening-whole (call.arrival s) o j l m x y store out = clash o
+opening-whole (call.handOut i channel) o j l m x y store out = clash o
+opening-whole (call.report i channel) o j l m x y store out = clash o
 
-resting-opens-none : (k : Call) (j : ℕ) (l : Line) (store out : List ℕ) → effect k j l store out .rests ≡ true → opens k ≡ false
+resting-opens-none : (k : Call) (j : ℕ) (l : Line) (start : ℕ) (store out : List ℕ) → effect k j l start store out .rests ≡ true → opens k ≡ false
 unfolding effect
-resting-opens-none (call.opening i s time) j l store out e = clash e
-resting-opens-none (call.closing i) j l store out e = refl
-resting-opens-none (call.mode i a) j l store out e = refl
-resting-opens-none (call.taking i channel message) j l store out e = refl
-resting-opens-none (call.sending i channel rank) j l store out e = refl
-resting-opens-none (call.empty i channel) j l store out e = refl
-resting-opens-none (call.arrival s) j l store out e = refl
-resting-opens-none (call.handOut i channel) j l store out e = refl
-resting-opens-none (call.report i channel) j l store out e = refl
+resting-opens-none (call.opening i s time) j l start store out e = clash e
+resting-opens-none (call.closing i) j l start store out e = refl
+resting-opens-none (call.mode i a) j l start store out e = refl
+resting-opens-none (call.taking i channel message) j l start store out e = refl
+resting-opens-none (call.sending i channel rank) j l start store out e = refl
+resting-opens-none (call.empty i channel) j l start store out e = refl
+resting-opens-none (call.arrival s) j l start store out e = refl
+resting-opens-none (call.handOut i channel) j l start store out e = refl
+resting-opens-none (call.report i channel) j l start store out e = refl
 
 -- A book whose line i is closed, and the same with another closed record there.
 module _ (b : Book) (i : ℕ) (o : lineOf b i .opened ≡ 0) (m : Line) (c : m .opened ≡ 0) where
@@ -118,6 +120,10 @@ module _ (b : Book) (i : ℕ) (o : lineOf b i .opened ≡ 0) (m : Line) (c : m .
       go (yes e) = subst (λ (k : ℕ). isOpen (lineOf b k) ≡ isOpen (lineOf other k)) e (closed ∙ sym (ap (λ (n : ℕ). eqb n 1) (put-closed (b .lines) i m c)))
       go (no n) = ap isOpen (sym (line-other b i m j n))
 
+  -- no part of the store begins anywhere else
+  starts-alike : (j : ℕ) → partStart b j ≡ partStart other j
+  starts-alike j = starts-same b other j (λ k l. refl)
+
   -- tests that first ask whether the line is open
   asks-same : (j : ℕ) (f : Line → List Test) → verdict (mustBeOpen (lineOf b j) ∷ f (lineOf b j)) ≡ verdict (mustBeOpen (lineOf other j) ∷ f (lineOf other j))
   asks-same j f = go (isOpen (lineOf b j)) refl
@@ -135,8 +141,8 @@ module _ (b : Book) (i : ℕ) (o : lineOf b i .opened ≡ 0) (m : Line) (c : m .
   on-line-same j f = λ t. pick (fits-same t) (pick (leb j 3) (asks-same j f t) (Refuse RANGE)) (Refuse BOOK)
 
   on-lent-same : (n j : ℕ) (f : Line → List Test)
-      → verdict (fitBook b ∷ roomy n ∷ lineNumber j ∷ mustBeOpen (lineOf b j) ∷ f (lineOf b j)) ≡ verdict (fitBook other ∷ roomy n ∷ lineNumber j ∷ mustBeOpen (lineOf other j) ∷ f (lineOf other j))
-  on-lent-same n j f = λ t. pick (fits-same t) (pick (leb 42240 n) (pick (leb j 3) (asks-same j f t) (Refuse RANGE)) (Refuse ROOM)) (Refuse BOOK)
+      → verdict (fitBook b ∷ roomy b n ∷ lineNumber j ∷ mustBeOpen (lineOf b j) ∷ f (lineOf b j)) ≡ verdict (fitBook other ∷ roomy other n ∷ lineNumber j ∷ mustBeOpen (lineOf other j) ∷ f (lineOf other j))
+  on-lent-same n j f = λ t. pick (fits-same t) (pick (leb (starts-alike 4 t) n) (pick (leb j 3) (asks-same j f t) (Refuse RANGE)) (Refuse ROOM)) (Refuse BOOK)
 
   opening-same : (j : ℕ) (s : Settings) → verdict (fitBook b ∷ lineNumber j ∷ openTests b j s) ≡ verdict (fitBook other ∷ lineNumber j ∷ openTests other j s)
   unfolding openTests
@@ -179,7 +185,7 @@ module _ (b : Book) (i : ℕ) (o : lineOf b i .opened ≡ 0) (m : Line) (c : m .
   verdict-same (call.taking j channel message) n space = on-lent-same n j (λ l. drop 1 (takeCallTests l channel (length message)))
   verdict-same (call.sending j channel rank) n space = on-lent-same n j (λ l. drop 1 (sendTests l channel rank space))
   verdict-same (call.empty j channel) n space = on-line-same j (λ l. drop 1 (emptyTests l channel space))
-  verdict-same (call.arrival s) n space = λ t. pick (fits-same t) (pick (leb 42240 n) (arrival-same s t) (Refuse ROOM)) (Refuse BOOK)
+  verdict-same (call.arrival s) n space = λ t. pick (fits-same t) (pick (leb (starts-alike 4 t) n) (arrival-same s t) (Refuse ROOM)) (Refuse BOOK)
   verdict-same (call.handOut j channel) n space = on-lent-same n j (λ l. drop 1 (handCallTests l channel space))
   verdict-same (call.report j channel) n space = on-line-same j (λ l. drop 1 (relayChannelTests l channel))
 
@@ -197,32 +203,32 @@ module _ (b : Book) (i : ℕ) (o : lineOf b i .opened ≡ 0) (m : Line) (c : m .
   line-same (call.report j channel) = refl
 
   effect-same : (k : Call) (store out : List ℕ) → verdict (tests k b (length store) (length out)) ≡ Pass
-      → effect k (lineFor k b) (lineOf b (lineFor k b)) store out ≡ effect k (lineFor k b) (lineOf other (lineFor k b)) store out
+      → effect k (lineFor k b) (lineOf b (lineFor k b)) (partStart b (lineFor k b)) store out ≡ effect k (lineFor k b) (lineOf other (lineFor k b)) (partStart other (lineFor k b)) store out
   effect-same k store out e =
       let j = lineFor k b in
       by-test (opens k)
-      (λ p. opening-whole k p j (lineOf b j) (lineOf other j) store out)
-      (λ p. ap (λ (l : Line). effect k j l store out) (open-same j (pass-open k b (length store) (length out) e p)))
+      (λ p. opening-whole k p j (lineOf b j) (lineOf other j) (partStart b j) (partStart other j) store out)
+      (λ p. λ t. effect k j (open-same j (pass-open k b (length store) (length out) e p) t) (starts-alike j t) store out)
 
   done-same : (k : Call) (store out : List ℕ) → verdict (tests k b (length store) (length out)) ≡ Pass → SameDid i (acceptedResult k b store out) (acceptedResult k other store out)
   unfolding acceptedResult closedAt
   done-same k store out e =
       subst (SameDid i (leaves b j its))
-      (ap (leaves other j) (effect-same k store out e) ∙ ap (λ (n : ℕ). leaves other n (effect k n (lineOf other n) store out)) (line-same k))
+      (ap (leaves other j) (effect-same k store out e) ∙ ap (λ (n : ℕ). leaves other n (effect k n (lineOf other n) (partStart other n) store out)) (line-same k))
       (record { answer = refl; store = refl; out = refl; book = go (its .rests) refl })
     where
       j : ℕ
       j = lineFor k b
 
       its : Effect
-      its = effect k j (lineOf b j) store out
+      its = effect k j (lineOf b j) (partStart b j) store out
 
       leaves : Book → ℕ → Effect → CallResult
       leaves a n f = resultWith (accepted (f .values)) (pick (f .rests) (closedAt a n) (withLine a n (f .line))) (f .store) (f .out)
 
       go : (t : Bool) → its .rests ≡ t → SameBeside i (pick t (closedAt b j) (withLine b j (its .line))) (pick t (closedAt other j) (withLine other j (its .line)))
       go true p =
-          let same = open-same j (pass-open k b (length store) (length out) e (resting-opens-none k j (lineOf b j) store out p)) in
+          let same = open-same j (pass-open k b (length store) (length out) e (resting-opens-none k j (lineOf b j) (partStart b j) store out p)) in
           λ t. let r = rests (restingOf b) (same t .identifier) in record { lines = put-beside (b .lines) i j m closedLine closedLine t; resting = restedIn (b .resting) r; rested = length r }
       go false p = λ t. record { lines = put-beside (b .lines) i j m (its .line) closedLine t; resting = b .resting; rested = b .rested }
 

@@ -1,7 +1,7 @@
 -- What BOOK asks of an open line as facts, and that opening and every change of mode keep it.
 -- Assumes nothing.
 use Prim.Native.Nat.{ℕ, _≤_}
-use mathlib.Core.Path.{_≡_, refl}
+use mathlib.Core.Path.{_≡_}
 use mathlib.Core.Bool.{Bool, true, false}
 use native.Mathlib.Omega.{arith}
 use lib.Dec.{lit≤, lit<, eqb}
@@ -9,7 +9,7 @@ use borrow.Author.Tests.{eq-eqb, ne-eqb, eqb-true, eqb-false}
 use Rattle.ground.specs.Pick.{pick}
 use Rattle.ground.proofs.Picks.{each, together, pick-by}
 use Rattle.ground.proofs.Either.{or-second, or-either}
-use Rattle.channel.specs.Channel.{windowOf}
+use Rattle.channel.specs.Channel.{largest}
 use Rattle.places.proofs.Masks.{mask-set}
 use Rattle.sending.specs.Sending.{sendingFits, emptiedSending}
 use Rattle.receiving.specs.Receiving.{receivingFits, emptiedReceiving}
@@ -25,8 +25,9 @@ use Rattle.mode.proofs.Fits.{opened-fits}
 use Rattle.mode.proofs.Emptying.{channels-by}
 use Rattle.owed.specs.Owed.{owedFits}
 use Rattle.owed.proofs.Steps.{fresh-fits}
-use Rattle.line.specs.Line.{isOpen, openedLine, sendingOf, receivingOf, withSides, withSending, withReceiving}
-use Rattle.line.specs.Fit.{largest, settingsFit, idle, lineTests, lineFits}
+use Rattle.line.specs.Line.{isOpen, openedLine, sendingOf, receivingOf, withParts, withSending, withReceiving}
+use Rattle.line.specs.Figures.{sendWindow, receiveWindow, sendLargest, receiveLargest}
+use Rattle.line.specs.Fit.{settingsFit, idle, lineTests, lineFits}
 use Rattle.line.specs.Mode.{steppedTo}
 use Rattle.line.specs.declared.Line.{Line}
 use Rattle.line.specs.declared.Settings.{Settings}
@@ -35,10 +36,10 @@ pub record LineOk (l : Line) : Type 0 where
   pub flag : l .opened ≤ 1
   pub settings : settingsFit (l .identifier) (l .kind) ≡ true
   pub modes : modesFit (l .modes) ≡ true
-  pub sending1 : sendingFits (windowOf 1) largest (l .sending1) ≡ true
-  pub sending2 : sendingFits (windowOf 2) largest (l .sending2) ≡ true
-  pub receiving1 : receivingFits (windowOf 1) largest (l .receiving1) ≡ true
-  pub receiving2 : receivingFits (windowOf 2) largest (l .receiving2) ≡ true
+  pub sending1 : sendingFits (sendWindow l 1) (sendLargest l) (l .sending1) ≡ true
+  pub sending2 : sendingFits (sendWindow l 2) (sendLargest l) (l .sending2) ≡ true
+  pub receiving1 : receivingFits (receiveWindow l 1) (receiveLargest l) (l .receiving1) ≡ true
+  pub receiving2 : receivingFits (receiveWindow l 2) (receiveLargest l) (l .receiving2) ≡ true
   pub owed : owedFits (l .owed) ≡ true
   pub quiet : (l .modes .local ≡ modem → ⊥) → idle l ≡ true
 
@@ -119,7 +120,7 @@ stepped-ok l k m f =
     (λ a b. stays (λ n. absurd (n b)))
     (λ a b. stays (λ n. k .quiet a))
   where
-    stays : ((m .local ≡ modem → ⊥) → idle l ≡ true) → LineOk (record { opened = l .opened; identifier = l .identifier; kind = l .kind; modes = m; sending1 = l .sending1; sending2 = l .sending2; receiving1 = l .receiving1; receiving2 = l .receiving2; owed = l .owed })
+    stays : ((m .local ≡ modem → ⊥) → idle l ≡ true) → LineOk (withParts l m (l .sending1) (l .sending2) (l .receiving1) (l .receiving2) (l .owed))
     stays q =
         record {
           flag = k .flag;
@@ -135,58 +136,54 @@ stepped-ok l k m f =
 
 -- in modem relay a side may be put anew
 module _ (l : Line) (k : LineOk l) (inside : l .modes .local ≡ modem) (channel : ℕ) where
-  pub sending-side : sendingFits (windowOf channel) largest (sendingOf l channel) ≡ true
+  pub sending-side : sendingFits (sendWindow l channel) (sendLargest l) (sendingOf l channel) ≡ true
   sending-side = go (eqb channel 1)
     where
       go : (t : Bool) → sendingFits (pick t 32 8) largest (pick t (l .sending1) (l .sending2)) ≡ true
       go true = k .sending1
       go false = k .sending2
 
-  pub receiving-side : receivingFits (windowOf channel) largest (receivingOf l channel) ≡ true
+  pub receiving-side : receivingFits (receiveWindow l channel) (receiveLargest l) (receivingOf l channel) ≡ true
   receiving-side = go (eqb channel 1)
     where
       go : (t : Bool) → receivingFits (pick t 32 8) largest (pick t (l .receiving1) (l .receiving2)) ≡ true
       go true = k .receiving1
       go false = k .receiving2
 
-  pub with-sending-ok : (s : Sending) → sendingFits (windowOf channel) largest s ≡ true → LineOk (withSending l channel s)
-  with-sending-ok s = go (eqb channel 1)
+  pub with-sending-ok : (s : Sending) → sendingFits (sendWindow l channel) (sendLargest l) s ≡ true → LineOk (withSending l channel s)
+  with-sending-ok s f =
+      let both = go (eqb channel 1) f in
+      record {
+        flag = k .flag;
+        settings = k .settings;
+        modes = k .modes;
+        sending1 = both .0;
+        sending2 = both .1;
+        receiving1 = k .receiving1;
+        receiving2 = k .receiving2;
+        owed = k .owed;
+        quiet = λ n. absurd (n inside);
+      }
     where
-      anew : (a b : Sending) → sendingFits 32 largest a ≡ true → sendingFits 8 largest b ≡ true → LineOk (withSides l a b (l .receiving1) (l .receiving2))
-      anew a b p q =
-          record {
-            flag = k .flag;
-            settings = k .settings;
-            modes = k .modes;
-            sending1 = p;
-            sending2 = q;
-            receiving1 = k .receiving1;
-            receiving2 = k .receiving2;
-            owed = k .owed;
-            quiet = λ n. absurd (n inside);
-          }
+      go : (t : Bool) → sendingFits (pick t 32 8) largest s ≡ true → (sendingFits 32 largest (pick t s (l .sending1)) ≡ true) × (sendingFits 8 largest (pick t (l .sending2) s) ≡ true)
+      go true p = (p, k .sending2)
+      go false p = (k .sending1, p)
 
-      go : (t : Bool) → sendingFits (pick t 32 8) largest s ≡ true → LineOk (pick t (withSides l s (l .sending2) (l .receiving1) (l .receiving2)) (withSides l (l .sending1) s (l .receiving1) (l .receiving2)))
-      go true p = anew s (l .sending2) p (k .sending2)
-      go false p = anew (l .sending1) s (k .sending1) p
-
-  pub with-receiving-ok : (r : Receiving) → receivingFits (windowOf channel) largest r ≡ true → LineOk (withReceiving l channel r)
-  with-receiving-ok r = go (eqb channel 1)
+  pub with-receiving-ok : (r : Receiving) → receivingFits (receiveWindow l channel) (receiveLargest l) r ≡ true → LineOk (withReceiving l channel r)
+  with-receiving-ok r f =
+      let both = go (eqb channel 1) f in
+      record {
+        flag = k .flag;
+        settings = k .settings;
+        modes = k .modes;
+        sending1 = k .sending1;
+        sending2 = k .sending2;
+        receiving1 = both .0;
+        receiving2 = both .1;
+        owed = k .owed;
+        quiet = λ n. absurd (n inside);
+      }
     where
-      anew : (a b : Receiving) → receivingFits 32 largest a ≡ true → receivingFits 8 largest b ≡ true → LineOk (withSides l (l .sending1) (l .sending2) a b)
-      anew a b p q =
-          record {
-            flag = k .flag;
-            settings = k .settings;
-            modes = k .modes;
-            sending1 = k .sending1;
-            sending2 = k .sending2;
-            receiving1 = p;
-            receiving2 = q;
-            owed = k .owed;
-            quiet = λ n. absurd (n inside);
-          }
-
-      go : (t : Bool) → receivingFits (pick t 32 8) largest r ≡ true → LineOk (pick t (withSides l (l .sending1) (l .sending2) r (l .receiving2)) (withSides l (l .sending1) (l .sending2) (l .receiving1) r))
-      go true p = anew r (l .receiving2) p (k .receiving2)
-      go false p = anew (l .receiving1) r (k .receiving1) p
+      go : (t : Bool) → receivingFits (pick t 32 8) largest r ≡ true → (receivingFits 32 largest (pick t r (l .receiving1)) ≡ true) × (receivingFits 8 largest (pick t (l .receiving2) r) ≡ true)
+      go true p = (p, k .receiving2)
+      go false p = (k .receiving1, p)

@@ -1,2 +1,4 @@
 pub mod Keeps
 pub mod Shape
+pub mod Part
+pub mod Same

@@ -14,7 +14,7 @@ use Rattle.receiving.specs.declared.Receiving.{Receiving}
 use Rattle.mode.specs.declared.Modes.{Modes}
 use Rattle.mode.specs.declared.Channels.{Channels}
 use Rattle.mode.specs.declared.Channels.the-variants.{Stay, Fresh, Emptied}
-use Rattle.line.specs.Line.{closedLine, openedLine, sendingOf, receivingOf, withSides, withSending, withReceiving}
+use Rattle.line.specs.Line.{closedLine, openedLine, sendingOf, receivingOf, withSending, withReceiving}
 use Rattle.line.specs.Mode.{steppedTo}
 use Rattle.line.specs.Shape.{Shaped}
 use Rattle.line.specs.declared.Line.{Line}
@@ -48,15 +48,15 @@ module _ (l : Line) (k : Shaped l) where
       go false = k .receiving2
 
   pub with-sending-shaped : (channel : ℕ) (s : Sending) → length (s .sizes) ≡ widest → Shaped (withSending l channel s)
-  with-sending-shaped channel s e = go (eqb channel 1)
+  with-sending-shaped channel s e = let both = go (eqb channel 1) in record { sending1 = both .0; sending2 = both .1; receiving1 = k .receiving1; receiving2 = k .receiving2 }
     where
-      go : (t : Bool) → Shaped (pick t (withSides l s (l .sending2) (l .receiving1) (l .receiving2)) (withSides l (l .sending1) s (l .receiving1) (l .receiving2)))
-      go true = record { sending1 = e; sending2 = k .sending2; receiving1 = k .receiving1; receiving2 = k .receiving2 }
-      go false = record { sending1 = k .sending1; sending2 = e; receiving1 = k .receiving1; receiving2 = k .receiving2 }
+      go : (t : Bool) → (length (pick {A = Sending} t s (l .sending1) .sizes) ≡ widest) × (length (pick {A = Sending} t (l .sending2) s .sizes) ≡ widest)
+      go true = (e, k .sending2)
+      go false = (k .sending1, e)
 
   pub with-receiving-shaped : (channel : ℕ) (r : Receiving) → length (r .sizes) ≡ widest → Shaped (withReceiving l channel r)
-  with-receiving-shaped channel r e = go (eqb channel 1)
+  with-receiving-shaped channel r e = let both = go (eqb channel 1) in record { sending1 = k .sending1; sending2 = k .sending2; receiving1 = both .0; receiving2 = both .1 }
     where
-      go : (t : Bool) → Shaped (pick t (withSides l (l .sending1) (l .sending2) r (l .receiving2)) (withSides l (l .sending1) (l .sending2) (l .receiving1) r))
-      go true = record { sending1 = k .sending1; sending2 = k .sending2; receiving1 = e; receiving2 = k .receiving2 }
-      go false = record { sending1 = k .sending1; sending2 = k .sending2; receiving1 = k .receiving1; receiving2 = e }
+      go : (t : Bool) → (length (pick {A = Receiving} t r (l .receiving1) .sizes) ≡ widest) × (length (pick {A = Receiving} t (l .receiving2) r .sizes) ≡ widest)
+      go true = (e, k .receiving2)
+      go false = (k .receiving1, e)

@@ -5,19 +5,15 @@ use mathlib.Core.Bool.{Bool, _||_}
 use mathlib.Core.List.{List, [], _∷_}
 use lib.Dec.{leb, eqb}
 use Rattle.ground.specs.Pick.{pick, allHold}
-use Rattle.channel.specs.Channel.{windowOf}
 use Rattle.sending.specs.Sending.{sendingFits}
 use Rattle.receiving.specs.Receiving.{receivingFits}
 use Rattle.mode.specs.Given.{modem}
 use Rattle.mode.specs.Fit.{modesFit}
 use Rattle.owed.specs.Owed.{owedFits}
+use Rattle.line.specs.Figures.{sendWindow, receiveWindow, sendLargest, receiveLargest}
 use Rattle.line.specs.declared.Line.{Line}
 use Rattle.line.specs.Line.{isOpen}
 use Rattle.places.specs.Places.{maskOf}
-
--- "A message has 1 to 132 octets" (RULES 3.4)
-abbrev pub largest : ℕ
-largest = 132
 
 -- "identifier 0 to 127, payload type 96 to 127" (RULES 7.1, RULES 15.3, RULES 15.4)
 abbrev pub settingsFit : ℕ → ℕ → Bool
@@ -37,10 +33,10 @@ abbrev pub lineTests : Line → List Bool
 lineTests l =
     settingsFit (l .identifier) (l .kind)
     ∷ modesFit (l .modes)
-    ∷ sendingFits (windowOf 1) largest (l .sending1)
-    ∷ sendingFits (windowOf 2) largest (l .sending2)
-    ∷ receivingFits (windowOf 1) largest (l .receiving1)
-    ∷ receivingFits (windowOf 2) largest (l .receiving2)
+    ∷ sendingFits (sendWindow l 1) (sendLargest l) (l .sending1)
+    ∷ sendingFits (sendWindow l 2) (sendLargest l) (l .sending2)
+    ∷ receivingFits (receiveWindow l 1) (receiveLargest l) (l .receiving1)
+    ∷ receivingFits (receiveWindow l 2) (receiveLargest l) (l .receiving2)
     ∷ owedFits (l .owed)
     ∷ (eqb (l .modes .local) modem || idle l)
     ∷ []

@@ -2,15 +2,21 @@
 // Here is what opening (RULES 7.3), closing (RULES 7.5) and a change of mode (RULES 9.12, RULES 9.14) make of it, and what BOOK asks of
 // it. Relay calls are in `relay`, `writing` and `arriving`, books in `book`, octets in `store`, the order of refusals in `calls`.
 ghost use mathlib.Core.Path.{_≡_};
+ghost use Rattle.sending.specs.Sending.{sendingFits};
+ghost use Rattle.receiving.specs.Receiving.{receivingFits};
 ghost use Rattle.line.specs.Line.{closedLine, openedLine, sendingOf, withSending, receivingOf, withReceiving};
 ghost use Rattle.line.specs.Fit.{settingsFit, idle, lineFits};
 ghost use Rattle.line.specs.Mode.{steppedTo};
+ghost use Rattle.line.specs.Figures.{sendWindow, receiveWindow, sendLargest, receiveLargest};
+ghost use Rattle.line.specs.Part.{partLength, regionOf};
 use channel::Channel;
 use mode::Channels;
 use mode::Modes;
 use owed::Owed;
 use receiving::Receiving;
 use sending::Sending;
+use store::Region;
+use store::Way;
 
 // What opening names, besides the line and the time.
 pub struct Settings {
@@ -140,6 +146,66 @@ impl Line {
     }
 }
 
+// The figures of a line, which every call on it goes by. All lines have the same.
+impl Line {
+    // How many octets the slots of the messages have that a line sends: 40 of 132.
+    const SENT: usize = 5280;
+
+    // And with those that it receives, which is its part of the store.
+    pub const PART: usize = 10560;
+
+    // How many messages of a channel may be under way: those that it sends.
+    pub fn send_window(self, channel: u8) -> u32
+        ensures { λ r. ⌜ r ≡ sendWindow self channel ⌝ }
+    {
+        Channel::of(channel).window
+    }
+
+    // And those that it receives.
+    pub fn receive_window(self, channel: u8) -> u32
+        ensures { λ r. ⌜ r ≡ receiveWindow self channel ⌝ }
+    {
+        Channel::of(channel).window
+    }
+
+    // How many octets a message has at the most that the line sends.
+    pub fn send_largest(self) -> u16
+        ensures { λ r. ⌜ r ≡ sendLargest self ⌝ }
+    {
+        Channel::LARGEST
+    }
+
+    // And one that it receives.
+    pub fn receive_largest(self) -> u16
+        ensures { λ r. ⌜ r ≡ receiveLargest self ⌝ }
+    {
+        Channel::LARGEST
+    }
+
+    // How many octets the line's part of the store has.
+    pub fn part_length(self) -> usize
+        ensures { λ r. ⌜ r ≡ partLength self ⌝ }
+    {
+        Line::PART
+    }
+
+    // Where the slots of a way and a channel lie in that part.
+    pub fn region(self, way: Way, channel: u8) -> Region
+        ensures { λ r. ⌜ r ≡ regionOf self way channel ⌝ }
+    {
+        match way {
+            Way::Sending => {
+                let places = self.send_window(1);
+                Region::from(0, places, self.send_largest() as usize, channel)
+            }
+            Way::Receiving => {
+                let places = self.receive_window(1);
+                Region::from(Line::SENT, places, self.receive_largest() as usize, channel)
+            }
+        }
+    }
+}
+
 impl Line {
     // Nothing is held, stored or owed.
     fn idle(self) -> bool
@@ -152,6 +218,22 @@ impl Line {
         a & b & c & d & (self.owed.count == 0)
     }
 
+    // What BOOK asks of the sending side of a channel.
+    fn sending_fits(self, channel: u8) -> bool
+        ensures { λ r. ⌜ r ≡ sendingFits (sendWindow self channel) (sendLargest self) (sendingOf self channel) ⌝ }
+    {
+        let window = self.send_window(channel);
+        self.sending(channel).fits(window, self.send_largest())
+    }
+
+    // And of the receiving side.
+    fn receiving_fits(self, channel: u8) -> bool
+        ensures { λ r. ⌜ r ≡ receivingFits (receiveWindow self channel) (receiveLargest self) (receivingOf self channel) ⌝ }
+    {
+        let window = self.receive_window(channel);
+        self.receiving(channel).fits(window, self.receive_largest())
+    }
+
     // What BOOK asks of a line: of a closed one, only the flag that says so.
     pub fn fits(self) -> bool
         ensures { λ r. ⌜ r ≡ lineFits self ⌝ }
@@ -161,10 +243,10 @@ impl Line {
         }
         let settings = settings_fit(self.identifier, self.kind);
         let modes = self.modes.fits();
-        let a = self.sending1.fits(Channel::WINDOW1, Channel::LARGEST);
-        let b = self.sending2.fits(Channel::WINDOW2, Channel::LARGEST);
-        let c = self.receiving1.fits(Channel::WINDOW1, Channel::LARGEST);
-        let d = self.receiving2.fits(Channel::WINDOW2, Channel::LARGEST);
+        let a = self.sending_fits(1);
+        let b = self.sending_fits(2);
+        let c = self.receiving_fits(1);
+        let d = self.receiving_fits(2);
         let owed = self.owed.fits();
         let idle = self.idle();
         settings & modes & a & b & c & d & owed & ((self.modes.local == Modes::MODEM) | idle)

@@ -11,19 +11,24 @@ use Rattle.mode.specs.declared.Channels.{Channels}
 use Rattle.mode.specs.declared.Channels.the-variants.{Stay, Fresh, Emptied}
 use Rattle.mode.specs.Given.{audio, modem}
 
+-- a record of modes, written out once: what is offered, the local and the remote mode, whether modem relay was left, recovery's try, since when the
+-- two differ, when the last try was made, and the line's last time
+abbrev pub modesWith : ℕ → ℕ → ℕ → ℕ → ℕ → ℕ → ℕ → ℕ → ℕ → Modes
+modesWith vbd relay local remote left tries since tried last = record {
+  vbd = vbd;
+  relay = relay;
+  local = local;
+  remote = remote;
+  left = left;
+  tries = tries;
+  since = since;
+  tried = tried;
+  last = last;
+}
+
 -- "At opening both are a" (RULES 9.2); "opening .. set[s] the line's last time" (RULES 10.11)
 abbrev pub openedModes : Bool → Bool → ℕ → Modes
-openedModes vbd relay time = record {
-  vbd = bit vbd;
-  relay = bit relay;
-  local = audio;
-  remote = audio;
-  left = 0;
-  tries = 0;
-  since = 0;
-  tried = 0;
-  last = time;
-}
+openedModes vbd relay time = modesWith (bit vbd) (bit relay) audio audio 0 0 0 0 time
 
 -- "A closed line's record is as in a fresh book": all numbers and flags 0, both modes a (RULES 7.7)
 abbrev pub closedModes : Modes
@@ -54,45 +59,15 @@ leftBy l s = pick (leaves (l .local) s) 1 (l .left)
 
 -- the record once the local mode is s and the remote mode r at a time
 unfoldable pub moved : Modes → ℕ → ℕ → ℕ → Modes
-moved l s r time = record {
-  vbd = l .vbd;
-  relay = l .relay;
-  local = s;
-  remote = r;
-  left = leftBy l s;
-  tries = l .tries;
-  since = timed l s r time;
-  tried = l .tried;
-  last = time;
-}
+moved l s r time = modesWith (l .vbd) (l .relay) s r (leftBy l s) (l .tries) (timed l s r time) (l .tried) time
 
 -- the record at try n, the last try made at a time (RULES 10.10)
 unfoldable pub trying : Modes → ℕ → ℕ → Modes
-trying l n time = record {
-  vbd = l .vbd;
-  relay = l .relay;
-  local = l .local;
-  remote = l .remote;
-  left = l .left;
-  tries = n;
-  since = l .since;
-  tried = time;
-  last = l .last;
-}
+trying l n time = modesWith (l .vbd) (l .relay) (l .local) (l .remote) (l .left) n (l .since) time (l .last)
 
 -- nothing changes but the line's last time (RULES 10.11)
 unfoldable pub stayed : Modes → ℕ → Modes
-stayed l time = record {
-  vbd = l .vbd;
-  relay = l .relay;
-  local = l .local;
-  remote = l .remote;
-  left = l .left;
-  tries = l .tries;
-  since = l .since;
-  tried = l .tried;
-  last = time;
-}
+stayed l time = modesWith (l .vbd) (l .relay) (l .local) (l .remote) (l .left) (l .tries) (l .since) (l .tried) time
 
 -- recovery's count of tries: the last try, and the number that stands for a line that recovery has ended (RULES 10.6, RULES 15.7)
 abbrev pub lastTry : ℕ

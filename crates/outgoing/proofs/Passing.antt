@@ -14,6 +14,7 @@ use Rattle.writing.specs.declared.SendVerdict.{SendVerdict}
 use Rattle.writing.specs.declared.SendVerdict.the-variants as may
 use Rattle.writing.proofs.Sends.{may-sendable}
 use Rattle.book.specs.Book.{lineOf}
+use Rattle.book.specs.Parts.{storeLength}
 use Rattle.book.specs.declared.Book.{Book}
 use Rattle.calls.specs.Order.{sendOrder}
 use Rattle.calls.proofs.FirstTests.{OnLine, asked-both}
@@ -46,7 +47,7 @@ module _ (b : Book) (n i channel rank space : ℕ) where
       pub send-is : h ≡ its
       send-is = ap (heldOr its) (sym p ∙ e ∙ ap (λ (v : Verdict). settle {A = SendVerdict} v may.Refused (may.Message its)) send-passes)
 
-      pub send-on : OnLine b i × (42240 ≤ n) × (verdict (sendTests (lineOf b i) channel rank space) ≡ Pass)
+      pub send-on : OnLine b i × (storeLength b ≤ n) × (verdict (sendTests (lineOf b i) channel rank space) ≡ Pass)
       send-on = asked-both n (send-parts b n i channel rank space) refl send-passes
 
       pub sendable : Sendable (lineOf b i) channel space h

@@ -47,7 +47,9 @@ pub fn take(book: Book, store: &mut [u8], line: u8, channel: u8, message: &[u8])
         Verdict::Pass => {
             let l = book.line(line);
             let number = (l.sending(channel).taken & 0x3fff) as u16;
-            let taken = relay::take(l, line, store, channel, message);
+            let start = book.part_start(line);
+            let end = start + l.part_length();
+            let taken = relay::take(l, &mut store[start..end], channel, message);
             let next = book.with_line(line, taken);
             Taken {
                 book: next,
@@ -69,7 +71,10 @@ pub fn send(book: Book, store: &[u8], line: u8, channel: u8, rank: u8, out: &mut
             answer: WriteAnswer::Refused(r),
         },
         SendVerdict::Message(h) => {
-            let sent = writing::send(book.line(line), line, store, channel, h, out);
+            let l = book.line(line);
+            let at = book.part_start(line);
+            let end = at + l.part_length();
+            let sent = writing::send(l, &store[at..end], channel, h, out);
             let answer = sent.answer;
             let next = book.with_line(line, sent.line);
             Written { book: next, answer }

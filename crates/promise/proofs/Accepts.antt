@@ -18,7 +18,7 @@ use Rattle.ground.proofs.Verdicts.{passes, verdict-on}
 use Rattle.places.specs.Places.{maskOf, widest, bitOf, setBelow, rankOf}
 use Rattle.places.specs.declared.Place.the-variants.{At}
 use Rattle.places.proofs.Ranks.{rank-found, rank-of}
-use Rattle.channel.specs.Channel.{windowOf, cap}
+use Rattle.channel.specs.Channel.{largest, windowOf, cap}
 use Rattle.channel.specs.Distance.{placeOf}
 use Rattle.channel.specs.Sizes.{sizeFits}
 use Rattle.receiving.specs.Receiving.{nextSize}
@@ -29,7 +29,9 @@ use Rattle.sending.specs.declared.Ranked.{Ranked}
 use Rattle.sending.specs.declared.Ranked.the-variants.{Is}
 use Rattle.flow.proofs.Keeps.{receiving-sized}
 use Rattle.flow.specs.Flow.{Message, Full}
-use Rattle.line.specs.Fit.{largest, lineFits}
+use Rattle.line.specs.Fit.{lineFits}
+use Rattle.line.specs.Figures.{sendWindow}
+use Rattle.packet.specs.Read.{longestHeader}
 use Rattle.line.specs.Line.{isOpen, sendingOf, receivingOf}
 use Rattle.line.specs.declared.Line.{Line}
 use Rattle.mode.specs.Given.{modem}
@@ -38,7 +40,7 @@ use Rattle.relay.specs.RelayTests.{reliable, relayChannelTests}
 use Rattle.relay.specs.Take.{takeCallTests}
 use Rattle.relay.specs.HandOut.{handCallTests}
 use Rattle.writing.specs.Write.{headerLengthFor, emptyTests}
-use Rattle.writing.specs.Send.{ranked, heldIn, sendTests, sentLength}
+use Rattle.writing.specs.Send.{ranked, heldIn, sendTests, sentLength, longestPacket}
 use Rattle.writing.proofs.Packets.{acks-few}
 use Rattle.writing.proofs.Sends.{send-may, may-passed, may-sendable, send-size}
 use Rattle.channel.proofs.Windows.{window-narrow}
@@ -46,7 +48,7 @@ use Rattle.book.proofs.Facts.{line-fits}
 use Rattle.calls.specs.Call as call
 use Rattle.calls.specs.Parts.{tests, fitBook, roomy, lineNumber}
 use Rattle.promise.specs.Past.{Past}
-use Rattle.promise.specs.Run.{Gateway, lineAt}
+use Rattle.promise.specs.Run.{Gateway, lineAt, partIn}
 use Rattle.promise.specs.Ends.{slotsOf}
 use Rattle.promise.specs.Promise.{InRelay, sendsBy, receivesBy}
 use Rattle.promise.proofs.Ends.{End, Joined, turn, sent, got, sends-ok, gets-ok}
@@ -57,9 +59,9 @@ use Rattle.promise.proofs.CallsKeep.{joined-open}
 
 -- the message whose place has the rank
 pub ranked-is : (l : Line) (channel rank : ℕ) {n : ℕ} → rankOf (maskOf (sendingOf l channel .unacked)) rank ≡ At n
-    → ranked l channel rank ≡ Is (heldIn (heldAt (windowOf channel) (sendingOf l channel) (At n)))
+    → ranked l channel rank ≡ Is (heldIn (heldAt (sendWindow l channel) (sendingOf l channel) (At n)))
 unfolding heldOf
-ranked-is l channel rank e = ap (heldAt (windowOf channel) (sendingOf l channel)) e
+ranked-is l channel rank e = ap (heldAt (sendWindow l channel) (sendingOf l channel)) e
 
 -- On a line in modem relay.
 module _ (l : Line) (opened : isOpen l ≡ true) (inside : l .modes .local ≡ modem) where
@@ -68,10 +70,10 @@ module _ (l : Line) (opened : isOpen l ≡ true) (inside : l .modes .local ≡ m
   relay-asked channel v = passes (relayChannelTests l channel) (opened, (eq-eqb _ _ inside, (v, tt)))
 
   -- a message that has a rank is written where the largest packet has room
-  module _ (fits : lineFits l ≡ true) (channel rank space : ℕ) (v : reliable channel ≡ true) (roomy : 144 ≤ space) where
+  module _ (fits : lineFits l ≡ true) (channel rank space : ℕ) (v : reliable channel ≡ true) (roomy : longestPacket l ≤ space) where
     rank-may : {n : ℕ} → rankOf (maskOf (sendingOf l channel .unacked)) rank ≡ At n → verdict (sendTests l channel rank space) ≡ Pass
     rank-may {n} e =
-        let w = windowOf channel in
+        let w = sendWindow l channel in
         let s = sendingOf l channel in
         let asked = relay-asked channel v in
         let held : Held = heldIn (heldAt w s (At n)) in
@@ -85,7 +87,7 @@ module _ (l : Line) (opened : isOpen l ≡ true) (inside : l .modes .local ≡ m
     pub send-may-by : rank < heldCount (sendingOf l channel) → verdict (sendTests l channel rank space) ≡ Pass
     send-may-by q = let f = rank-found (maskOf (sendingOf l channel .unacked)) rank q in rank-may (f .1)
 
-  pub empty-may : (channel space : ℕ) → channel ≤ 2 → 12 ≤ space → verdict (emptyTests l channel space) ≡ Pass
+  pub empty-may : (channel space : ℕ) → channel ≤ 2 → longestHeader ≤ space → verdict (emptyTests l channel space) ≡ Pass
   unfolding emptyTests
   empty-may channel space c r = passes (emptyTests l channel space) (opened, (eq-eqb _ _ inside, (le-leb channel 2 c, (le-leb (headerLengthFor l) space (omega (arith, acks-few l)), tt))))
 
@@ -111,14 +113,14 @@ module _ {i identifier kind : ℕ} {g : Gateway} {p : Past} (s : Sound i identif
   own = is-open (s .phase) (a .0)
 
   numbered : lineNumber i .holds ≡ true
-  numbered = le-leb i 3 (omega (arith, j .mine .small))
+  numbered = le-leb i 3 (omega (arith, s .small))
 
   on : (ts : List Test) → verdict ts ≡ Pass → verdict (fitBook (g .book) ∷ lineNumber i ∷ ts) ≡ Pass
   on ts e = verdict-on (fitBook (g .book) ∷ lineNumber i ∷ []) ts (passes (fitBook (g .book) ∷ lineNumber i ∷ []) (s .fits, (numbered, tt))) ∙ e
 
-  lent : (ts : List Test) → verdict ts ≡ Pass → verdict (fitBook (g .book) ∷ roomy (length (g .store)) ∷ lineNumber i ∷ ts) ≡ Pass
+  lent : (ts : List Test) → verdict ts ≡ Pass → verdict (fitBook (g .book) ∷ roomy (g .book) (length (g .store)) ∷ lineNumber i ∷ ts) ≡ Pass
   lent ts e =
-      let before = fitBook (g .book) ∷ roomy (length (g .store)) ∷ lineNumber i ∷ [] in
+      let before = fitBook (g .book) ∷ roomy (g .book) (length (g .store)) ∷ lineNumber i ∷ [] in
       verdict-on before ts (passes before (s .fits, (le-leb _ _ (s .long), (numbered, tt)))) ∙ e
 
   module _ (channel : ℕ) (v : reliable channel ≡ true) where
@@ -137,7 +139,7 @@ module _ {i identifier kind : ℕ} {g : Gateway} {p : Past} (s : Sound i identif
         lent (takeCallTests l channel (length m))
         (verdict-on (relayChannelTests l channel) rest (relay-asked l (own .opened) (a .1) channel v) ∙ passes rest (sized, (lt-ltb _ _ under, (lt-ltb _ _ near, tt))))
 
-    pub send-passes : (rank : ℕ) → rank < heldCount (sendingOf (lineAt g i) channel) → 144 ≤ length out → Passes g (call.sending i channel rank) out
+    pub send-passes : (rank : ℕ) → rank < heldCount (sendingOf (lineAt g i) channel) → longestPacket (lineAt g i) ≤ length out → Passes g (call.sending i channel rank) out
     unfolding tests
     send-passes rank q r =
         lent (sendTests (lineAt g i) channel rank (length out)) (send-may-by (lineAt g i) (own .opened) (a .1) (line-fits (g .book) (s .fits) i) channel rank (length out) v r q)
@@ -160,7 +162,7 @@ module _ {i identifier kind : ℕ} {g : Gateway} {p : Past} (s : Sound i identif
         let m = maskOf (k .unacked) in
         let d = n - k .base in
         let base : sendsBy g i p channel .h ≡ k .base = ap (λ (e : End). sent e channel .h) now in
-        let bit : bitOf m d ≡ true = full-bit (windowOf channel) (slotsOf (g .store) i way.Sending channel) (k .sizes) m (k .origin) d (subst (λ (e : End). Full (sent e channel .held n)) now full) in
+        let bit : bitOf m d ≡ true = full-bit (windowOf channel) (slotsOf (lineAt g i) (partIn g i) way.Sending channel) (k .sizes) m (k .origin) d (subst (λ (e : End). Full (sent e channel .held n)) now full) in
         let near : d < widest = omega (arith, j .there channel v .high, window-narrow channel) in
         let r = rank-of m d near bit in
         (setBelow m d, r .1, ap (λ (x : Ranked). heldIn x .number) (ranked-is (lineAt g i) channel (setBelow m d) (r .0)) ∙ back (k .base) (omega arith))
@@ -171,10 +173,10 @@ module _ {i identifier kind : ℕ} {g : Gateway} {p : Past} (s : Sound i identif
     pub hand-passes : Full (receivesBy g i p channel .stored (receivesBy g i p channel .R)) → largest ≤ length out → Passes g (call.handOut i channel) out
     unfolding tests
     hand-passes full r =
-        let shown : Full (got (record { line = lineAt g i; i = i; store = g .store; past = p }) channel .stored (got (record { line = lineAt g i; i = i; store = g .store; past = p }) channel .R))
+        let shown : Full (got (record { line = lineAt g i; part = partIn g i; past = p }) channel .stored (got (record { line = lineAt g i; part = partIn g i; past = p }) channel .R))
         = subst (λ (e : End). Full (got e channel .stored (got e channel .R))) (end-now g i p (a .0) refl refl) full in
         lent (handCallTests (lineAt g i) channel (length out)) (hand-may channel v (length out) r (turn (joined-open s (a .0) j out)) (own .opened) (a .1) shown)
 
-  pub empty-passes : (channel : ℕ) → channel ≤ 2 → 12 ≤ length out → Passes g (call.empty i channel) out
+  pub empty-passes : (channel : ℕ) → channel ≤ 2 → longestHeader ≤ length out → Passes g (call.empty i channel) out
   unfolding tests
   empty-passes channel c r = on (emptyTests (lineAt g i) channel (length out)) (empty-may (lineAt g i) (own .opened) (a .1) channel (length out) c r)

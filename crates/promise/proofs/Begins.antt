@@ -1,5 +1,7 @@
 -- A fresh gateway opens a line that offers modem relay, and a request brings the line there.
 -- Assumes nothing.
+use Rattle.book.specs.Parts.{storeLength}
+use Rattle.book.specs.Parts.{partStart}
 use Prim.Native.Nat.{ℕ, _≤_, _<_}
 use mathlib.Core.Path.{_≡_, refl, sym, ap, subst, _∙_}
 use mathlib.Core.Bool.{true, not}
@@ -42,7 +44,7 @@ asked-modem : (m : Modes) (time : ℕ) → verdict (askTests m modem time) ≡ P
 unfolding askStep moved
 asked-modem m time e = rw e refl
 
-module _ (store : List ℕ) (long : 42240 ≤ length store) (i : ℕ) (small : i < 4) (s : Settings) (fit : settingsFit (s .identifier) (s .kind) ≡ true) (relay : s .relay ≡ true)
+module _ (store : List ℕ) (long : storeLength freshBook ≤ length store) (i : ℕ) (small : i < 4) (s : Settings) (fit : settingsFit (s .identifier) (s .kind) ≡ true) (relay : s .relay ≡ true)
     (time then : ℕ) (later : time ≤ then) (out : List ℕ) where
   abbrev g : Gateway
   g = freshWith store
@@ -57,7 +59,7 @@ module _ (store : List ℕ) (long : 42240 ≤ length store) (i : ℕ) (small : i
   h = after g opening out
 
   fresh : Sound i (s .identifier) (s .kind) g nothingYet
-  fresh = fresh-sound i (s .identifier) (s .kind) store long
+  fresh = fresh-sound i (s .identifier) (s .kind) store small long
 
   numbered : lineNumber i .holds ≡ true
   numbered = le-leb i 3 (omega arith)
@@ -85,7 +87,7 @@ module _ (store : List ℕ) (long : 42240 ≤ length store) (i : ℕ) (small : i
   unfolding tests modeTests
   ask-passes = rw (sound .fits, numbered, its .opened) asked
 
-  line : lineAt (after h asks out) i ≡ effect asks i (lineAt h i) (h .store) out .line
+  line : lineAt (after h asks out) i ≡ effect asks i (lineAt h i) (partStart (h .book) i) (h .store) out .line
   unfolding lineFor
   line = line-left sound asks out refl ask-passes
 

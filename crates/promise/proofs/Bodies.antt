@@ -74,20 +74,20 @@ slip-read s ok = ap (λ (v : Verdict). slip.answerOf (settle v slipReading.Refus
 
 -- any line of a book that BOOK lets pass
 pub ready-sound : {g : Gateway} {i : ℕ} → Ready g i → Sound i 0 0 g nothingYet
-ready-sound r = record { fits = r .fits; shaped = r .shaped; long = r .long; phase = closed }
+ready-sound r = record { fits = r .fits; shaped = r .shaped; long = r .long; small = r .small; phase = closed }
 
 -- "Closing writes a slip"
-module _ {g : Gateway} {i : ℕ} (r : Ready g i) (out : List ℕ) (space : 12 ≤ length out) where
+module _ {g : Gateway} {i : ℕ} (r : Ready g i) (out : List ℕ) (space : slip.slipLength ≤ length out) where
   abbrev l : Line
   l = lineAt g i
 
   close-passes : Passes g (call.closing i) out
   unfolding tests closeTests
-  close-passes = passes (fitBook (g .book) ∷ lineNumber i ∷ closeTests l (length out)) (r .fits, (le-leb i 3 (omega (arith, r .small)), (r .opened, (le-leb 12 (length out) space, tt))))
+  close-passes = passes (fitBook (g .book) ∷ lineNumber i ∷ closeTests l (length out)) (r .fits, (le-leb i 3 (omega (arith, r .small)), (r .opened, (le-leb slip.slipLength (length out) space, tt))))
 
   fitting : verdict (slip.writeTests (slipOf l) (length out)) ≡ Pass
   unfolding closeTests
-  fitting = slip-passes l (length out) (line-fits (g .book) (r .fits) i) (passes (closeTests l (length out)) (r .opened, (le-leb 12 (length out) space, tt)))
+  fitting = slip-passes l (length out) (line-fits (g .book) (r .fits) i) (passes (closeTests l (length out)) (r .opened, (le-leb slip.slipLength (length out) space, tt)))
 
   written : given (does g (call.closing i) out) ≡ slipOctets (slipOf l)
   unfolding lineFor effect

@@ -15,9 +15,12 @@ use Rattle.line.specs.declared.Line.{Line}
 use Rattle.mode.specs.Given.{modem}
 use Rattle.mode.specs.declared.Modes.{Modes}
 use Rattle.relay.specs.RelayTests.{relayChannelTests}
-use Rattle.relay.specs.Take.{takeCallTests, tookLine, tookStore}
+use Rattle.relay.specs.Take.{takeCallTests, tookLine, tookPart}
 use Rattle.relay.specs.HandOut.{handCallTests, handedLine, handedOctets}
-use Rattle.relay.proofs.Keeps.{SameSettings, took-line-same, handed-line-same}
+use Rattle.relay.proofs.Keeps.{took-line-same, handed-line-same, took-part-length, took-in-store}
+use Rattle.book.specs.Parts.{partStart}
+use Rattle.book.proofs.Parts.{part-in}
+use Rattle.line.proofs.Same.{SameSettings}
 use Rattle.relay.proofs.Lines.{take-asked, hand-asked}
 use Rattle.writing.specs.Write.{emptyTests, wroteLine}
 use Rattle.writing.specs.Write as written
@@ -30,28 +33,28 @@ use Rattle.calls.specs.Parts.{tests, fitBook, roomy, lineNumber}
 use Rattle.calls.specs.Result.{effect}
 use Rattle.flow.specs.Flow.{Message}
 use Rattle.promise.specs.Past.{Mark, Past, tookPast, handedPast, wrotePast}
-use Rattle.promise.specs.Run.{Gateway, given, lineAt, Relays, rankedMark, baseMark, sentPacket, emptyPacket}
+use Rattle.promise.specs.Run.{Gateway, given, lineAt, partIn, Relays, rankedMark, baseMark, sentPacket, emptyPacket}
 use Rattle.promise.specs.Ours.{does, after}
 use Rattle.promise.proofs.Ends.{End, Joined}
 use Rattle.promise.proofs.SendingAnew.{asked-open, taking-joined}
 use Rattle.promise.proofs.ReceivingAnew.{hand-joined}
 use Rattle.promise.proofs.PacketWritten.{empty-joined, held-joined}
 use Rattle.promise.proofs.Phases.{endOf, Open, Phase, relaying, Sound, is-open, open-same, end-now}
-use Rattle.promise.proofs.OwnLine.{Passes, line-left, store-left, octets-given}
+use Rattle.promise.proofs.OwnLine.{Passes, line-left, part-left, part-stays, octets-given}
 
 -- What the tests of a call ask of its line.
 module _ (g : Gateway) (i : ℕ) (out : List ℕ) where
   pub take-asks : (channel : ℕ) (m : Message) → Passes g (call.taking i channel m) out → verdict (takeCallTests (lineAt g i) channel (length m)) ≡ Pass
   unfolding tests
-  take-asks channel m e = pass-both (fitBook (g .book) ∷ roomy (length (g .store)) ∷ lineNumber i ∷ []) (takeCallTests (lineAt g i) channel (length m)) e .1
+  take-asks channel m e = pass-both (fitBook (g .book) ∷ roomy (g .book) (length (g .store)) ∷ lineNumber i ∷ []) (takeCallTests (lineAt g i) channel (length m)) e .1
 
   pub hand-asks : (channel : ℕ) → Passes g (call.handOut i channel) out → verdict (handCallTests (lineAt g i) channel (length out)) ≡ Pass
   unfolding tests
-  hand-asks channel e = pass-both (fitBook (g .book) ∷ roomy (length (g .store)) ∷ lineNumber i ∷ []) (handCallTests (lineAt g i) channel (length out)) e .1
+  hand-asks channel e = pass-both (fitBook (g .book) ∷ roomy (g .book) (length (g .store)) ∷ lineNumber i ∷ []) (handCallTests (lineAt g i) channel (length out)) e .1
 
   pub send-asks : (channel rank : ℕ) → Passes g (call.sending i channel rank) out → verdict (sendTests (lineAt g i) channel rank (length out)) ≡ Pass
   unfolding tests
-  send-asks channel rank e = pass-both (fitBook (g .book) ∷ roomy (length (g .store)) ∷ lineNumber i ∷ []) (sendTests (lineAt g i) channel rank (length out)) e .1
+  send-asks channel rank e = pass-both (fitBook (g .book) ∷ roomy (g .book) (length (g .store)) ∷ lineNumber i ∷ []) (sendTests (lineAt g i) channel rank (length out)) e .1
 
   pub empty-asks : (channel : ℕ) → Passes g (call.empty i channel) out → verdict (emptyTests (lineAt g i) channel (length out)) ≡ Pass
   unfolding tests
@@ -77,15 +80,15 @@ LeftIn i identifier kind f g p = Relays g i × Left i identifier kind f g p
 module _ {i identifier kind : ℕ} {g : Gateway} {p : Past} (s : Sound i identifier kind g p) (opened : p .opened ≡ true) {f : End} (j : Joined (endOf g i p) f) (out : List ℕ) where
   -- the end, its line being open
   abbrev pub mine : End
-  mine = record { line = lineAt g i; i = i; store = g .store; past = p }
+  mine = record { line = lineAt g i; part = partIn g i; past = p }
 
   pub joined-open : Joined mine f
   joined-open = subst (λ (e : End). Joined e f) (end-now g i p opened refl refl) j
 
   -- a call that leaves the line in modem relay, and its settings
-  pub left-in : (h : Gateway) (l : Line) (store : List ℕ) (p′ : Past) → p′ .opened ≡ true → lineAt h i ≡ l → h .store ≡ store → SameSettings (lineAt g i) l → Relays g i
-      → Joined (record { line = l; i = i; store = store; past = p′ }) f → LeftIn i identifier kind f h p′
-  left-in h l store p′ o e t same r k =
+  pub left-in : (h : Gateway) (l : Line) (part : List ℕ) (p′ : Past) → p′ .opened ≡ true → lineAt h i ≡ l → partIn h i ≡ part → SameSettings (lineAt g i) l → Relays g i
+      → Joined (record { line = l; part = part; past = p′ }) f → LeftIn i identifier kind f h p′
+  left-in h l part p′ o e t same r k =
       let inside = ap (λ (x : Line). x .modes .local) e ∙ ap (λ (m : Modes). m .local) (same .modes) ∙ r in
       (inside, (relaying (subst (Open identifier kind) (sym e) (open-same same (is-open (s .phase) opened))) o inside, subst (λ (x : End). Joined x f) (sym (end-now h i p′ o e t)) k))
 
@@ -96,12 +99,12 @@ module _ {i identifier kind : ℕ} {g : Gateway} {p : Past} (s : Sound i identif
       let l = lineAt g i in
       let pass = take-asks g i out channel m e in
       let k = joined-open in
-      left-in (after g c out) (tookLine l channel (length m)) (tookStore l i channel m (g .store)) (tookPast p channel m) opened (line-left s c out refl e) (store-left s c out refl e)
+      left-in (after g c out) (tookLine l channel (length m)) (tookPart l channel m (partIn g i)) (tookPast p channel m) opened (line-left s c out refl e) (part-left s c out refl e (sym (took-in-store l channel m (g .store) (partStart (g .book) i) (k .mine .fits) pass (part-in (g .book) (g .store) (s .long) i (s .small)))) (took-part-length l channel m (partIn g i)))
       (took-line-same l channel (length m)) (asked-open l channel (take-asked l (k .mine .fits) channel (length m) pass) .1) (taking-joined channel m pass k)
 
-  pub handed-given : (channel : ℕ) → Passes g (call.handOut i channel) out → given (does g (call.handOut i channel) out) ≡ handedOctets (lineAt g i) i channel (g .store)
+  pub handed-given : (channel : ℕ) → Passes g (call.handOut i channel) out → given (does g (call.handOut i channel) out) ≡ handedOctets (lineAt g i) channel (partIn g i)
   unfolding lineFor effect
-  handed-given channel e = octets-given s (call.handOut i channel) out refl e (handedOctets (lineAt g i) i channel (g .store)) refl refl
+  handed-given channel e = octets-given s (call.handOut i channel) out refl e (handedOctets (lineAt g i) channel (partIn g i)) refl refl
 
   pub handed-kept : (channel : ℕ) → Passes g (call.handOut i channel) out
       → LeftIn i identifier kind f (after g (call.handOut i channel) out) (handedPast p channel (given (does g (call.handOut i channel) out)))
@@ -112,7 +115,7 @@ module _ {i identifier kind : ℕ} {g : Gateway} {p : Past} (s : Sound i identif
       let pass = hand-asks g i out channel e in
       let k = joined-open in
       subst (λ (m : Message). LeftIn i identifier kind f (after g c out) (handedPast p channel m)) (sym (handed-given channel e))
-      (left-in (after g c out) (handedLine l channel) (g .store) (handedPast p channel (handedOctets l i channel (g .store))) opened (line-left s c out refl e) (store-left s c out refl e)
+      (left-in (after g c out) (handedLine l channel) (partIn g i) (handedPast p channel (handedOctets l channel (partIn g i))) opened (line-left s c out refl e) (part-stays s c out refl e refl)
       (handed-line-same l channel) (asked-open l channel (hand-asked l (k .mine .fits) channel (length out) pass) .1) (hand-joined channel (length out) pass k))
 
   -- a packet with these octets and marks is written
@@ -121,9 +124,9 @@ module _ {i identifier kind : ℕ} {g : Gateway} {p : Past} (s : Sound i identif
       LeftIn i identifier kind f (after g c out) (wrotePast p (record { octets = octets; carries = carried; names = named; acks = take 3 (p .owes) }))
 
   pub sent-given : (channel rank : ℕ) → Passes g (call.sending i channel rank) out
-      → given (does g (call.sending i channel rank) out) ≡ heldPacket (lineAt g i) i channel (heldIn (ranked (lineAt g i) channel rank)) (g .store)
+      → given (does g (call.sending i channel rank) out) ≡ heldPacket (lineAt g i) channel (heldIn (ranked (lineAt g i) channel rank)) (partIn g i)
   unfolding lineFor effect
-  sent-given channel rank e = octets-given s (call.sending i channel rank) out refl e (heldPacket (lineAt g i) i channel (heldIn (ranked (lineAt g i) channel rank)) (g .store)) refl refl
+  sent-given channel rank e = octets-given s (call.sending i channel rank) out refl e (heldPacket (lineAt g i) channel (heldIn (ranked (lineAt g i) channel rank)) (partIn g i)) refl refl
 
   pub sent-kept : (channel rank : ℕ) → Passes g (call.sending i channel rank) out
       → LeftIn i identifier kind f (after g (call.sending i channel rank) out) (wrotePast p (sentPacket g p i channel rank (does g (call.sending i channel rank) out)))
@@ -132,10 +135,10 @@ module _ {i identifier kind : ℕ} {g : Gateway} {p : Past} (s : Sound i identif
       let c = call.sending i channel rank in
       let l = lineAt g i in
       let pass = send-asks g i out channel rank e in
-      let octets = heldPacket l i channel (heldIn (ranked l channel rank)) (g .store) in
+      let octets = heldPacket l channel (heldIn (ranked l channel rank)) (partIn g i) in
       subst (after-packet c (rankedMark g i channel rank ∷ []) (baseMark g i channel ∷ [])) (sym (sent-given channel rank e))
-      (left-in (after g c out) (wroteLine l) (g .store) (wrotePast p (record { octets = octets; carries = rankedMark g i channel rank ∷ []; names = baseMark g i channel ∷ []; acks = take 3 (p .owes) }))
-      opened (line-left s c out refl e) (store-left s c out refl e)
+      (left-in (after g c out) (wroteLine l) (partIn g i) (wrotePast p (record { octets = octets; carries = rankedMark g i channel rank ∷ []; names = baseMark g i channel ∷ []; acks = take 3 (p .owes) }))
+      opened (line-left s c out refl e) (part-stays s c out refl e refl)
       (wrote-line-same l) (send-inside l channel rank (length out) pass) (held-joined channel rank (length out) pass joined-open))
 
   pub empty-given : (channel : ℕ) → Passes g (call.empty i channel) out → given (does g (call.empty i channel) out) ≡ written.emptyPacket (lineAt g i) channel
@@ -152,6 +155,6 @@ module _ {i identifier kind : ℕ} {g : Gateway} {p : Past} (s : Sound i identif
       let octets = written.emptyPacket l channel in
       let named = pick (eqb channel 0) [] (baseMark g i channel ∷ []) in
       subst (after-packet c [] named) (sym (empty-given channel e))
-      (left-in (after g c out) (wroteLine l) (g .store) (wrotePast p (record { octets = octets; carries = []; names = named; acks = take 3 (p .owes) }))
-      opened (line-left s c out refl e) (store-left s c out refl e)
+      (left-in (after g c out) (wroteLine l) (partIn g i) (wrotePast p (record { octets = octets; carries = []; names = named; acks = take 3 (p .owes) }))
+      opened (line-left s c out refl e) (part-stays s c out refl e refl)
       (wrote-line-same l) (empty-inside l channel (length out) pass) (empty-joined channel (length out) pass joined-open))

@@ -1,6 +1,7 @@
 -- THE PROMISE between two gateways, for every run of theirs: what was taken at the one is handed out at the other, in order and octet for octet,
 -- nothing that waits is lost, and all can be handed out.
 -- Assumes nothing.
+use Rattle.writing.specs.Send.{longestPacket}
 use Prim.Native.Nat.{ℕ, zero, suc, _≤_, _<_}
 use mathlib.Core.Path.{_≡_, refl, sym, ap, subst, _∙_}
 use mathlib.Core.Bool.{true}
@@ -11,7 +12,7 @@ use lib.ListN.{length, getD}
 use lib.Seq.{length-take-le}
 use Rattle.sending.specs.Sending.{heldCount}
 use Rattle.flow.specs.Flow.{Full, waiting}
-use Rattle.line.specs.Fit.{largest}
+use Rattle.channel.specs.Channel.{largest}
 use Rattle.line.specs.Line.{isOpen, sendingOf}
 use Rattle.relay.specs.RelayTests.{reliable}
 use Rattle.relay.proofs.Lines.{channel-span}
@@ -98,7 +99,7 @@ module _ {i j identifier kind : ℕ} {g h : Gateway} {p q : Past} (r : Run i j i
     report-counts a =
         ap (λ (vs : List ℕ). getD vs 0 0) (own-values (call.report i channel) (g .book) (g .store) [] (report-passes (k .mine) a (k .joined) [] channel v))
 
-    pub sends-accepted : InRelay g i p → (rank : ℕ) → rank < reportBy g i channel → (out : List ℕ) → 144 ≤ length out → accepts (does g (call.sending i channel rank) out) ≡ true
+    pub sends-accepted : InRelay g i p → (rank : ℕ) → rank < reportBy g i channel → (out : List ℕ) → longestPacket (lineAt g i) ≤ length out → accepts (does g (call.sending i channel rank) out) ≡ true
     sends-accepted a rank l out space =
         call-accepted g (call.sending i channel rank) out (send-passes (k .mine) a (k .joined) out channel v rank (omega (arith, report-counts a, l)) space)
 

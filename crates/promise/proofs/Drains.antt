@@ -25,7 +25,7 @@ use Rattle.promise.proofs.SendingAnew.{more-other}
 use Rattle.promise.proofs.ReceivingAnew.{hands}
 use Rattle.promise.proofs.Promised.{all-have}
 use Rattle.promise.proofs.Phases.{endOf, Sound, is-open, end-now}
-use Rattle.promise.proofs.OwnLine.{Passes, call-passes, call-accepted, line-left, store-left}
+use Rattle.promise.proofs.OwnLine.{Passes, call-passes, call-accepted, line-left, part-stays}
 use Rattle.promise.proofs.CallsKeep.{LeftIn, hand-asks, joined-open, handed-kept}
 use Rattle.promise.proofs.StepsKeep.{Pair, turned, step-kept}
 use Rattle.promise.proofs.Accepts.{hand-passes}
@@ -42,7 +42,7 @@ unfolding lineFor effect
 handed-shows {j} {h = h} {q} s o k out c pass m =
     let d = call.handOut j c in
     let now = ap (λ (e : End). got e c) (end-now h j q o refl refl) in
-    let then = ap (λ (e : End). got e c) (end-now (after h d out) j (handedPast q c m) o (line-left s d out refl pass) (store-left s d out refl pass)) in
+    let then = ap (λ (e : End). got e c) (end-now (after h d out) j (handedPast q c m) o (line-left s d out refl pass) (part-stays s d out refl pass refl)) in
     transport (λ t. HandOutMove (sym now t) (sym then t)) (hands c (length out) (hand-asks h j out c pass) (joined-open s o k out))
 
 module _ {i j identifier kind : ℕ} (c : ℕ) (v : reliable c ≡ true) (outs : ℕ → List ℕ) where

@@ -1,7 +1,7 @@
 -- What holds at all times between the two ends of a line: each end by itself, what its packets say of it, and the flow of each channel each way.
 -- What a packet says is about its writer alone, and stays true as the writer goes on.
 -- Assumes nothing.
-use Prim.Native.Nat.{ℕ, _+_, _%_, _≤_, _<_}
+use Prim.Native.Nat.{ℕ, _+_, _%_, _≤_}
 use mathlib.Core.Path.{_≡_, sym, _∙_, subst, transport}
 use mathlib.Core.Bool.{true, false}
 use mathlib.Core.List.{List, [], _∷_, map}
@@ -14,13 +14,15 @@ use Rattle.ground.proofs.Picks.{pick-by}
 use Rattle.field.specs.Word.{wordOf}
 use Rattle.packet.specs.Acks.{ackList}
 use Rattle.packet.specs.Read.{headAt, acksAt, payloadOf, payloadFits, headTests, listTests}
-use Rattle.channel.specs.Channel.{modulus, windowOf}
+use Rattle.channel.specs.Channel.{modulus, largest, windowOf}
 use Rattle.sending.specs.Sending.{SendingOk, sendingFits}
 use Rattle.receiving.specs.Receiving.{ReceivingOk, receivingFits}
 use Rattle.flow.proofs.Keeps.{sending-ok, receiving-ok}
 use Rattle.flow.specs.Flow.{Message, Sends, Receives, Have, Flow, Data, Grows}
 use Rattle.owed.specs.Owed.{owedOf}
-use Rattle.line.specs.Fit.{largest, lineFits}
+use Rattle.line.specs.Fit.{lineFits}
+use Rattle.line.specs.Figures.{sendWindow, receiveWindow, sendLargest, receiveLargest}
+use Rattle.line.specs.Part.{partLength}
 use Rattle.line.specs.Line.{isOpen, sendingOf, receivingOf}
 use Rattle.line.specs.Shape.{Shaped}
 use Rattle.line.specs.declared.Line.{Line}
@@ -33,11 +35,10 @@ use Rattle.promise.specs.Run.{Each, bound}
 use Rattle.promise.specs.Ends.{sendsOf, receivesOf}
 use Rattle.promise.proofs.Lists.{each-map}
 
--- one end of the line: its record, its number there, the store, and what has become of it
+-- one end of the line: its record, its part of the store, and what has become of it
 pub record End : Type 0 where
   pub line : Line
-  pub i : ℕ
-  pub store : List ℕ
+  pub part : List ℕ
   pub past : Past
 
 abbrev pub mark : ℕ → ℕ → Mark
@@ -49,10 +50,10 @@ markWord m = wordOf (m .channel) (m .number % modulus)
 
 -- the views of an end, by channel
 abbrev pub sent : End → ℕ → Sends
-sent e channel = sendsOf (e .store) (e .i) (e .line) channel
+sent e channel = sendsOf (e .part) (e .line) channel
 
 abbrev pub got : End → ℕ → Receives
-got e channel = receivesOf (e .store) (e .i) (e .line) channel
+got e channel = receivesOf (e .part) (e .line) channel
 
 -- a message of a reliable channel that has come to an end; `views` are what it shows
 pub record HasCome (views : ℕ → Receives) (m : Mark) : Type 0 where
@@ -88,16 +89,15 @@ Says e = Said (e .line .identifier) (e .line .kind) (e .past .taken) (got e)
 
 -- the sides fit, also where the line is closed
 pub record Sides (l : Line) : Type 0 where
-  pub sending : (channel : ℕ) → sendingFits (windowOf channel) largest (sendingOf l channel) ≡ true
-  pub receiving : (channel : ℕ) → receivingFits (windowOf channel) largest (receivingOf l channel) ≡ true
+  pub sending : (channel : ℕ) → sendingFits (sendWindow l channel) (sendLargest l) (sendingOf l channel) ≡ true
+  pub receiving : (channel : ℕ) → receivingFits (receiveWindow l channel) (receiveLargest l) (receivingOf l channel) ≡ true
 
 -- an end by itself
 pub record Whole (e : End) : Type 0 where
   pub fits : lineFits (e .line) ≡ true
   pub shaped : Shaped (e .line)
   pub sides : Sides (e .line)
-  pub small : e .i < 4
-  pub long : 42240 ≤ length (e .store)
+  pub long : partLength (e .line) ≤ length (e .part)
   pub owed : owedOf (e .line .owed) ≡ map markWord (e .past .owes)
   pub owes : Each (HasCome (got e)) (e .past .owes)
   pub came : Each (HasCome (got e)) (e .past .came)
@@ -105,7 +105,7 @@ pub record Whole (e : End) : Type 0 where
 
 -- what one end has sent and the other has got
 abbrev pub Flows : End → End → Type 0
-Flows e f = (c : ℕ) → reliable c ≡ true → Flow (windowOf c) (sent e c) (got f c) (e .past .taken c) (f .past .handed c)
+Flows e f = (c : ℕ) → reliable c ≡ true → Flow (sendWindow (e .line) c) (sent e c) (got f c) (e .past .taken c) (f .past .handed c)
 
 pub record Joined (e f : End) : Type 0 where
   pub mine : Whole e
@@ -118,11 +118,11 @@ turn j = record { mine = j .yours; yours = j .mine; there = j .back; back = j .t
 
 -- what the steps ask of the sides
 module _ {l : Line} (k : Sides l) (channel : ℕ) where
-  pub sends-ok : SendingOk (windowOf channel) (sendingOf l channel)
-  sends-ok = sending-ok (windowOf channel) largest (sendingOf l channel) (window-narrow channel) (k .sending channel)
+  pub sends-ok : SendingOk (sendWindow l channel) (sendingOf l channel)
+  sends-ok = sending-ok (sendWindow l channel) (sendLargest l) (sendingOf l channel) (window-narrow channel) (k .sending channel)
 
-  pub gets-ok : ReceivingOk (windowOf channel) (receivingOf l channel)
-  gets-ok = receiving-ok (windowOf channel) largest (receivingOf l channel) (window-narrow channel) (k .receiving channel)
+  pub gets-ok : ReceivingOk (receiveWindow l channel) (receivingOf l channel)
+  gets-ok = receiving-ok (receiveWindow l channel) (receiveLargest l) (receivingOf l channel) (window-narrow channel) (k .receiving channel)
 
 -- a window and the bound together are within the numbers' span
 pub wide : (channel : ℕ) → windowOf channel + bound ≤ modulus

@@ -1,6 +1,10 @@
 -- The two can always finish: the owed numbers leave in empty packets, which are lost; each message that is still held is written and arrives; and
 -- all is handed out.
 -- Assumes nothing.
+use Rattle.promise.specs.Run.{partIn}
+use Rattle.line.specs.Line.{closedLine}
+use Rattle.writing.specs.Send.{longestPacket}
+use Rattle.book.specs.Parts.{partStart}
 use Prim.Native.Nat.{ℕ, zero, suc, _+_, _-_, _≤_, _<_}
 use mathlib.Core.Path.{_≡_, refl, sym, ap, subst, _∙_}
 use mathlib.Core.Bool.{true}
@@ -28,7 +32,7 @@ use Rattle.promise.specs.Ours.{does, after, Adds, Goes, CanFinish}
 use Rattle.promise.proofs.Ends.{End, Joined, turn, mark}
 use Rattle.promise.proofs.Ends as ends
 use Rattle.promise.proofs.Phases.{endOf, Sound, end-now}
-use Rattle.promise.proofs.OwnLine.{Passes, call-accepted, line-left, store-left}
+use Rattle.promise.proofs.OwnLine.{Passes, call-accepted, line-left, part-stays}
 use Rattle.promise.proofs.CallsKeep.{LeftIn, joined-open, sent-kept, wrote-kept}
 use Rattle.promise.proofs.StepsKeep.{Pair, turned, step-kept, arrives-here, heard-kept}
 use Rattle.promise.proofs.Accepts.{held-rank, send-passes, empty-passes}
@@ -36,15 +40,15 @@ use Rattle.promise.proofs.Drains.{relay-step, drains, hands-go}
 
 -- an output with room for every packet
 abbrev roomy : List ℕ
-roomy = replicate 144 0
+roomy = replicate (longestPacket closedLine) 0
 
 -- a packet written leaves what its writer shows as sender
 wrote-shows : {i identifier kind : ℕ} {g : Gateway} {p : Past} → Sound i identifier kind g p → p .opened ≡ true → (d : Call) (out : List ℕ) → lineFor d (g .book) ≡ i → Passes g d out
-    → effect d i (lineAt g i) (g .store) out .line ≡ wroteLine (lineAt g i) → effect d i (lineAt g i) (g .store) out .store ≡ g .store
+    → effect d i (lineAt g i) (partStart (g .book) i) (g .store) out .line ≡ wroteLine (lineAt g i) → effect d i (lineAt g i) (partStart (g .book) i) (g .store) out .store ≡ g .store
     → (x : Packet) (c : ℕ) → sendsBy (after g d out) i (wrotePast p x) c ≡ sendsBy g i p c
 unfolding wroteLine
 wrote-shows {i} {g = g} {p} s o d out m pass l t x c =
-    ap (λ (e : End). ends.sent e c) (end-now (after g d out) i (wrotePast p x) o (line-left s d out m pass ∙ l) (store-left s d out m pass ∙ t))
+    ap (λ (e : End). ends.sent e c) (end-now (after g d out) i (wrotePast p x) o (line-left s d out m pass ∙ l) (part-stays s d out m pass t))
     ∙ sym (ap (λ (e : End). ends.sent e c) (end-now g i p o refl refl))
 
 module _ (i j identifier kind c : ℕ) (v : reliable c ≡ true) (g₀ : Gateway) (p₀ : Past) (h₀ : Gateway) (q₀ : Past) (view : Sends) where
@@ -59,8 +63,8 @@ module _ (i j identifier kind c : ℕ) (v : reliable c ≡ true) (g₀ : Gateway
 
   -- a packet is written: it may be lost
   module _ {g h : Gateway} {p q : Past} (r : Ready g p h q) where
-    wrote-ready : (d : Call) → lineFor d (g .book) ≡ i → Passes g d roomy → effect d i (lineAt g i) (g .store) roomy .line ≡ wroteLine (lineAt g i)
-        → effect d i (lineAt g i) (g .store) roomy .store ≡ g .store → (x : Packet) → Adds i g p q roomy d (wrotePast p x)
+    wrote-ready : (d : Call) → lineFor d (g .book) ≡ i → Passes g d roomy → effect d i (lineAt g i) (partStart (g .book) i) (g .store) roomy .line ≡ wroteLine (lineAt g i)
+        → effect d i (lineAt g i) (partStart (g .book) i) (g .store) roomy .store ≡ g .store → (x : Packet) → Adds i g p q roomy d (wrotePast p x)
         → LeftIn i identifier kind (endOf h j q) (after g d roomy) (wrotePast p x) → Ready (after g d roomy) (wrotePast p x) h q
     wrote-ready d m pass l t x add left =
         let s = relay-step (r .mine .0) d roomy (r .mine .0) left add in
@@ -83,7 +87,7 @@ module _ (i j identifier kind c : ℕ) (v : reliable c ≡ true) (g₀ : Gateway
 
   -- A message that is held is written and arrives, nothing being owed.
   module _ {g h : Gateway} {p q : Past} (r : Ready g p h q) (quiet : p .owes ≡ []) (n : ℕ) (low : view .h ≤ n) (high : n < view .S) (full : Full (view .held n)) where
-    joined : Joined (record { line = lineAt g i; i = i; store = g .store; past = p }) (endOf h j q)
+    joined : Joined (record { line = lineAt g i; part = partIn g i; past = p }) (endOf h j q)
     joined = joined-open (r .pair .mine) (r .mine .0) (r .pair .joined) roomy
 
     held : (rank : ℕ) × (rank < heldCount (sendingOf (lineAt g i) c)) × (heldIn (ranked (lineAt g i) c rank) .number ≡ n)

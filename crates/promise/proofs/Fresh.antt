@@ -21,7 +21,9 @@ use Rattle.flow.specs.Flow.{Sends, Receives, Flow, Grows}
 use Rattle.flow.specs.View.{sends, receives}
 use Rattle.flow.proofs.Messages.{message-none}
 use Rattle.owed.specs.Owed.{owedOf, freshOwed}
-use Rattle.line.specs.Fit.{lineFits, largest}
+use Rattle.line.specs.Fit.{lineFits}
+use Rattle.line.specs.Figures.{sendWindow, receiveWindow, sendLargest, receiveLargest}
+use Rattle.line.specs.Part.{partLength}
 use Rattle.line.specs.Line.{closedLine, openedLine, sendingOf, receivingOf}
 use Rattle.line.specs.Mode.{steppedTo}
 use Rattle.line.specs.Shape.{Shaped}
@@ -30,7 +32,6 @@ use Rattle.line.specs.declared.Settings.{Settings}
 use Rattle.mode.specs.declared.Modes.{Modes}
 use Rattle.mode.specs.declared.Channels.{Channels}
 use Rattle.mode.specs.declared.Channels.the-variants.{Stay, Fresh, Emptied}
-use Rattle.store.specs.declared.Way.{Way}
 use Rattle.store.specs.declared.Way.the-variants as way
 use Rattle.relay.specs.RelayTests.{reliable}
 use Rattle.channel.proofs.Windows.{window-narrow}
@@ -38,8 +39,7 @@ use Rattle.promise.specs.Past.{Past}
 use Rattle.promise.specs.Run.{Each, none}
 use Rattle.promise.specs.Ends.{slotsOf, sendsOf, receivesOf}
 use Rattle.promise.proofs.Lists.{each-map}
-use Rattle.promise.proofs.Views.{SameSlots, sends-kept, receives-kept}
-use Rattle.promise.proofs.Ends.{End, Said, Sides, Whole, Joined, sent, got, sends-ok, gets-ok, came-on, said-on, grows-none, flow-as}
+use Rattle.promise.proofs.Ends.{End, Said, Sides, Whole, Joined, sent, got, came-on, said-on, grows-none, flow-as}
 
 -- both channels as they start, and nothing owed
 pub record Unused (l : Line) : Type 0 where
@@ -82,8 +82,8 @@ module _ {l : Line} (u : Unused l) where
   pub unused-sides : Sides l
   unused-sides =
       record {
-        sending = λ c. subst (λ (s : Sending). sendingFits (windowOf c) largest s ≡ true) (sym (u .sending c)) (fresh-sending (windowOf c) largest (window-narrow c) (some c));
-        receiving = λ c. subst (λ (r : Receiving). receivingFits (windowOf c) largest r ≡ true) (sym (u .receiving c)) (fresh-receiving (windowOf c) largest (window-narrow c) (some c));
+        sending = λ c. subst (λ (s : Sending). sendingFits (sendWindow l c) (sendLargest l) s ≡ true) (sym (u .sending c)) (fresh-sending (sendWindow l c) (sendLargest l) (window-narrow c) (some c));
+        receiving = λ c. subst (λ (r : Receiving). receivingFits (receiveWindow l c) (receiveLargest l) r ≡ true) (sym (u .receiving c)) (fresh-receiving (receiveWindow l c) (receiveLargest l) (window-narrow c) (some c));
       }
     where
       some : (c : ℕ) → 0 < windowOf c
@@ -96,26 +96,26 @@ module _ {l : Line} (u : Unused l) where
   abbrev noReceives : Receives
   noReceives = record { R = 0; stored = λ n. [] }
 
-  pub unused-sends : (store : List ℕ) (i c : ℕ) → sendsOf store i l c ≡ noSends
-  unused-sends store i c =
-      let slots = slotsOf store i way.Sending c in
-      let f = fun-ext (λ n. message-none (windowOf c) slots (freshSending .sizes) (maskOf (setOf 0)) 0 (n - 0) (none-bit (n - 0))) in
-      ap (sends (windowOf c) slots) (u .sending c) ∙ (λ t. record { S = 0; h = 0; held = f t })
+  pub unused-sends : (part : List ℕ) (c : ℕ) → sendsOf part l c ≡ noSends
+  unused-sends part c =
+      let slots = slotsOf l part way.Sending c in
+      let f = fun-ext (λ n. message-none (sendWindow l c) slots (freshSending .sizes) (maskOf (setOf 0)) 0 (n - 0) (none-bit (n - 0))) in
+      ap (sends (sendWindow l c) slots) (u .sending c) ∙ (λ t. record { S = 0; h = 0; held = f t })
 
-  pub unused-receives : (store : List ℕ) (i c : ℕ) → receivesOf store i l c ≡ noReceives
-  unused-receives store i c =
-      let slots = slotsOf store i way.Receiving c in
-      let f = fun-ext (λ n. message-none (windowOf c) slots (freshReceiving .sizes) (maskOf (setOf 0)) 0 (n - 0) (none-bit (n - 0))) in
-      ap (receives (windowOf c) slots) (u .receiving c) ∙ (λ t. record { R = 0; stored = f t })
+  pub unused-receives : (part : List ℕ) (c : ℕ) → receivesOf part l c ≡ noReceives
+  unused-receives part c =
+      let slots = slotsOf l part way.Receiving c in
+      let f = fun-ext (λ n. message-none (receiveWindow l c) slots (freshReceiving .sizes) (maskOf (setOf 0)) 0 (n - 0) (none-bit (n - 0))) in
+      ap (receives (receiveWindow l c) slots) (u .receiving c) ∙ (λ t. record { R = 0; stored = f t })
 
 -- the past of a line that nothing has become of
 abbrev pub noPast : Bool → Past
 noPast b = record { opened = b; taken = λ c. []; handed = λ c. []; wrote = []; owes = []; came = [] }
 
-fresh-whole : (l : Line) (i : ℕ) (store : List ℕ) (b : Bool) → Unused l → lineFits l ≡ true → i < 4 → 42240 ≤ length store
-    → Whole (record { line = l; i = i; store = store; past = noPast b })
-fresh-whole l i store b u fits small long =
-    record { fits = fits; shaped = unused-shaped u; sides = unused-sides u; small = small; long = long; owed = ap owedOf (u .owed); owes = none; came = none; said = none }
+fresh-whole : (l : Line) (part : List ℕ) (b : Bool) → Unused l → lineFits l ≡ true → partLength l ≤ length part
+    → Whole (record { line = l; part = part; past = noPast b })
+fresh-whole l part b u fits long =
+    record { fits = fits; shaped = unused-shaped u; sides = unused-sides u; long = long; owed = ap owedOf (u .owed); owes = none; came = none; said = none }
 
 fresh-flow : (w : ℕ) → Flow w (record { S = 0; h = 0; held = λ n. [] }) (record { R = 0; stored = λ n. [] }) [] []
 fresh-flow w =
@@ -132,33 +132,31 @@ fresh-flow w =
     }
 
 -- "Take two fresh gateways": the ends of a line that neither has used
-pub fresh-joined : (l m : Line) (i n : ℕ) (s t : List ℕ) (a b : Bool) → Unused l → Unused m → lineFits l ≡ true → lineFits m ≡ true → i < 4 → n < 4
-    → 42240 ≤ length s → 42240 ≤ length t
-    → Joined (record { line = l; i = i; store = s; past = noPast a }) (record { line = m; i = n; store = t; past = noPast b })
-fresh-joined l m i n s t a b u v fl fm si sn ls lt =
+pub fresh-joined : (l m : Line) (s t : List ℕ) (a b : Bool) → Unused l → Unused m → lineFits l ≡ true → lineFits m ≡ true → partLength l ≤ length s → partLength m ≤ length t
+    → Joined (record { line = l; part = s; past = noPast a }) (record { line = m; part = t; past = noPast b })
+fresh-joined l m s t a b u v fl fm ls lt =
     record {
-      mine = fresh-whole l i s a u fl si ls;
-      yours = fresh-whole m n t b v fm sn lt;
-      there = λ c r. flow-as (unused-sends u s i c) (unused-receives v t n c) refl refl (fresh-flow (windowOf c));
-      back = λ c r. flow-as (unused-sends v t n c) (unused-receives u s i c) refl refl (fresh-flow (windowOf c));
+      mine = fresh-whole l s a u fl ls;
+      yours = fresh-whole m t b v fm lt;
+      there = λ c r. flow-as (unused-sends u s c) (unused-receives v t c) refl refl (fresh-flow (sendWindow l c));
+      back = λ c r. flow-as (unused-sends v t c) (unused-receives u s c) refl refl (fresh-flow (sendWindow m c));
     }
 
--- an end with another record, another store, and open or not
+-- an end with another record, another part of the store, and open or not
 abbrev pub withState : End → Line → List ℕ → Bool → End
-withState e l store b =
+withState e l part b =
     record {
       line = l;
-      i = e .i;
-      store = store;
+      part = part;
       past = record { opened = b; taken = e .past .taken; handed = e .past .handed; wrote = e .past .wrote; owes = e .past .owes; came = e .past .came };
     }
 
 -- It shows what it showed.
-module _ {e f : End} (j : Joined e f) (l : Line) (store : List ℕ) (b : Bool) where
+module _ {e f : End} (j : Joined e f) (l : Line) (part : List ℕ) (b : Bool) where
   abbrev anew : End
-  anew = withState e l store b
+  anew = withState e l part b
 
-  same-joined : lineFits l ≡ true → Shaped l → Sides l → 42240 ≤ length store → owedOf (l .owed) ≡ owedOf (e .line .owed)
+  same-joined : lineFits l ≡ true → Shaped l → Sides l → partLength l ≤ length part → owedOf (l .owed) ≡ owedOf (e .line .owed)
       → ((c : ℕ) → reliable c ≡ true → sent anew c ≡ sent e c) → ((c : ℕ) → reliable c ≡ true → got anew c ≡ got e c)
       → Each (Said (l .identifier) (l .kind) (e .past .taken) (got e)) (e .past .wrote) → Joined anew f
   same-joined fits shaped sides long owed sending gets says =
@@ -168,7 +166,6 @@ module _ {e f : End} (j : Joined e f) (l : Line) (store : List ℕ) (b : Bool) w
           fits = fits;
           shaped = shaped;
           sides = sides;
-          small = j .mine .small;
           long = long;
           owed = owed ∙ j .mine .owed;
           owes = each-map (came-on grows) (j .mine .owes);
@@ -181,29 +178,20 @@ module _ {e f : End} (j : Joined e f) (l : Line) (store : List ℕ) (b : Bool) w
       }
 
   -- the line is not used yet and stays so: it is opened, changes its modes, enters modem relay, or anything is done to the store
-  pub unused-joined : Unused (e .line) → Unused l → lineFits l ≡ true → 42240 ≤ length store → e .past .wrote ≡ [] → Joined (withState e l store b) f
+  pub unused-joined : Unused (e .line) → Unused l → lineFits l ≡ true → partLength l ≤ length part → e .past .wrote ≡ [] → Joined (withState e l part b) f
   unused-joined u v fits long nothing =
       same-joined fits (unused-shaped v) (unused-sides v) long (ap owedOf (v .owed) ∙ sym (ap owedOf (u .owed)))
-      (λ c r. unused-sends v store (e .i) c ∙ sym (unused-sends u (e .store) (e .i) c))
-      (λ c r. unused-receives v store (e .i) c ∙ sym (unused-receives u (e .store) (e .i) c))
+      (λ c r. unused-sends v part c ∙ sym (unused-sends u (e .part) c))
+      (λ c r. unused-receives v part c ∙ sym (unused-receives u (e .part) c))
       (rw nothing none)
 
--- the line stays in modem relay, and changes its modes at most; what others do to the store leaves its slots as they were
-pub moded-joined : {e f : End} (j : Joined e f) (m : Modes) (store : List ℕ) → lineFits (steppedTo (e .line) m Stay) ≡ true → 42240 ≤ length store
-    → ((w : Way) (c : ℕ) → reliable c ≡ true → SameSlots (e .i) w c (e .store) store)
-    → Joined (record { line = steppedTo (e .line) m Stay; i = e .i; store = store; past = e .past }) f
+-- the line stays in modem relay, and changes its modes at most
+pub moded-joined : {e f : End} (j : Joined e f) (m : Modes) → lineFits (steppedTo (e .line) m Stay) ≡ true
+    → Joined (record { line = steppedTo (e .line) m Stay; part = e .part; past = e .past }) f
 unfolding steppedTo
-moded-joined {e} j m store fits long slots =
+moded-joined {e} j m fits =
     let l = steppedTo (e .line) m Stay in
     let k = j .mine in
-    same-joined j l store (e .past .opened) fits
+    same-joined j l (e .part) (e .past .opened) fits
     (record { sending1 = k .shaped .sending1; sending2 = k .shaped .sending2; receiving1 = k .shaped .receiving1; receiving2 = k .shaped .receiving2 })
-    (record { sending = k .sides .sending; receiving = k .sides .receiving }) long refl
-    (λ c r. sends-kept (e .store) store (e .i) (e .line) l c (sends-ok (k .sides) c) refl (slots way.Sending c r))
-    (λ c r. receives-kept (e .store) store (e .i) (e .line) l c (gets-ok (k .sides) c) refl (slots way.Receiving c r))
-    (k .said)
-
-pub beside-joined : {e f : End} (j : Joined e f) (store : List ℕ) → 42240 ≤ length store → ((w : Way) (c : ℕ) → reliable c ≡ true → SameSlots (e .i) w c (e .store) store)
-    → Joined (record { line = e .line; i = e .i; store = store; past = e .past }) f
-unfolding steppedTo
-beside-joined {e} j = λ store. moded-joined j (e .line .modes) store (j .mine .fits)
+    (record { sending = k .sides .sending; receiving = k .sides .receiving }) (k .long) refl (λ c r. refl) (λ c r. refl) (k .said)

@@ -9,8 +9,6 @@ use borrow.Author.Tests.{le-leb}
 use Rattle.ground.proofs.Either.{by-test}
 use Rattle.ground.proofs.Picks.{clash}
 use Rattle.ground.proofs.Verdicts.{passes}
-use Rattle.store.specs.Store.{regionOf, slotOctets}
-use Rattle.store.specs.declared.Way.{Way}
 use Rattle.mode.specs.Acts.{Act, outcome}
 use Rattle.mode.specs.Given.{modem}
 use Rattle.mode.specs.declared.Channels.{Channels}
@@ -22,9 +20,10 @@ use Rattle.line.specs.Line.{openedLine}
 use Rattle.line.specs.Mode.{steppedTo}
 use Rattle.line.specs.declared.Line.{Line}
 use Rattle.line.specs.declared.Settings.{Settings}
-use Rattle.relay.specs.RelayTests.{reliable}
 use Rattle.book.specs.Book.{lineOf, withLine}
+use Rattle.book.specs.Parts.{partOf}
 use Rattle.book.specs.declared.Book.{Book}
+use Rattle.book.proofs.Parts.{parts-alike}
 use Rattle.book.proofs.OtherLines.{line-same}
 use Rattle.book.proofs.Facts.{line-fits}
 use Rattle.calls.specs.Call.{Call}
@@ -34,35 +33,36 @@ use Rattle.calls.specs.Parts.{fitBook, lineNumber, mustBeOpen}
 use Rattle.calls.specs.Result.{CallResult, resultWith, resultOf, effect}
 use Rattle.calls.proofs.Results.{moved-did}
 use Rattle.laws.proofs.Keeps.{every-call-keeps}
-use Rattle.laws.proofs.Others.{others-stay, slots-stay}
+use Rattle.laws.proofs.Others.{others-stay, parts-stay}
 use Rattle.promise.specs.Past.{Past, justOpened}
-use Rattle.promise.specs.Run.{Gateway, accepts, lineAt, Relays}
+use Rattle.promise.specs.Run.{Gateway, accepts, lineAt, partIn, Relays}
 use Rattle.promise.specs.Ours.{does, after}
-use Rattle.promise.proofs.Views.{SameSlots}
 use Rattle.promise.proofs.Ends.{End, Joined}
 use Rattle.promise.proofs.Fresh.{Unused, closed-unused, opened-unused, stepped-unused, unused-joined, moded-joined}
-use Rattle.promise.proofs.Phases.{endOf, Open, Phase, closed, unused, relaying, Sound, long-after, is-open, end-now, phase-stays, joined-stays}
-use Rattle.promise.proofs.OwnLine.{call-passes, call-refused, line-left, store-left}
+use Rattle.promise.proofs.Phases.{endOf, Open, Phase, closed, unused, relaying, Sound, long-after, part-there, is-open, end-now, phase-stays, joined-stays}
+use Rattle.promise.proofs.OwnLine.{call-passes, call-refused, line-left, part-stays}
 use Rattle.promise.proofs.CallsKeep.{Left}
 
--- the same store has the same slots
-pub slots-same : (i : ℕ) {store now : List ℕ} → now ≡ store → (w : Way) (c : ℕ) → reliable c ≡ true → SameSlots i w c store now
-slots-same i e w c r p q = ap (λ (m : List ℕ). slotOctets m (regionOf i w c) p) e
+-- the same store has the same part for the line, whatever is in the book
+pub part-same : (g h : Gateway) (i : ℕ) → h .store ≡ g .store → partIn h i ≡ partIn g i
+part-same g h i e = parts-alike (h .book) (g .book) i (λ j. refl) (h .store) ∙ ap (partOf (g .book) i) e
 
 module _ {i identifier kind : ℕ} {g : Gateway} {p : Past} (s : Sound i identifier kind g p) {f : End} (j : Joined (endOf g i p) f) (c : Call) (out : List ℕ) where
-  -- the line's record stays, and so do the slots of its places
-  stays : lineAt (after g c out) i ≡ lineAt g i → ((w : Way) (k : ℕ) → reliable k ≡ true → SameSlots i w k (g .store) (after g c out .store)) → Left i identifier kind f (after g c out) p
-  stays same slots = (phase-stays g (after g c out) i same (s .phase), joined-stays g (after g c out) i same p (long-after s c out) slots j)
+  -- the line's record stays, and so does its part of the store
+  stays : lineAt (after g c out) i ≡ lineAt g i → partIn (after g c out) i ≡ partIn g i → Left i identifier kind f (after g c out) p
+  stays same part = (phase-stays g (after g c out) i same (s .phase), joined-stays g (after g c out) i same p part j)
 
   -- "a call that is refused .. adds nothing"
   pub refused-kept : accepts (does g c out) ≡ false → Left i identifier kind f (after g c out) p
   refused-kept e =
       let u = call-refused g c out e in
-      stays (ap (λ (b : Book). lineOf b i) (u .book)) (slots-same i (u .store))
+      stays (ap (λ (b : Book). lineOf b i) (u .book)) (part-same g (after g c out) i (u .store))
 
   -- "other lines may do anything"
   pub elsewhere-kept : (lineFor c (g .book) ≡ i → ⊥) → Left i identifier kind f (after g c out) p
-  elsewhere-kept n = stays (others-stay c (g .book) (g .store) out i n) (slots-stay c (g .book) (g .store) out (s .shaped) i (j .mine .small) n)
+  elsewhere-kept n =
+      stays (others-stay c (g .book) (g .store) out i n)
+      (parts-alike (after g c out .book) (g .book) i (λ k. refl) (after g c out .store) ∙ parts-stay c (g .book) (g .store) out (s .shaped) i n)
 
 -- a report changes nothing, whatever the answer
 pub report-kept : {i identifier kind : ℕ} {g : Gateway} {p : Past} → Sound i identifier kind g p → {f : End} → Joined (endOf g i p) f → (channel : ℕ) (out : List ℕ)
@@ -73,7 +73,7 @@ report-kept {i} {g = g} s j channel out =
     by-test (accepts (does g c out))
     (λ e.
     let pass = call-passes g c out e in
-    stays s j c out (line-left s c out refl pass) (slots-same i (store-left s c out refl pass)))
+    stays s j c out (line-left s c out refl pass) (part-stays s c out refl pass refl))
     (λ e. refused-kept s j c out e)
 
 -- "open a line with one identifier and payload type"
@@ -96,7 +96,7 @@ opens-kept {i} {identifier} {kind} {g} s e {f} j x time out a b t = go (s .phase
     go closed e j =
         let u : Unused (lineAt h i) = subst Unused (sym line) (opened-unused x time) in (
           unused (subst (Open identifier kind) (sym line) (record { opened = refl; named = a; typed = b })) u,
-          unused-joined j (lineAt h i) (h .store) true closed-unused u fits (long-after s (call.opening i x time) out) refl,
+          unused-joined j (lineAt h i) (partIn h i) true closed-unused u fits (part-there h i (long-after s (call.opening i x time) out) (s .small)) refl,
         )
     go (unused o u) e j = clash (sym e)
     go (relaying o t r) e j = clash (sym e ∙ t)
@@ -134,10 +134,10 @@ module _ {i identifier kind : ℕ} {g : Gateway} {p : Past} (s : Sound i identif
   its : resultOf c (g .book) (g .store) out ≡ resultWith (outcome (l .modes) a .said) (withLine (g .book) i then) (g .store) out
   its =
       sym (moved-did (g .book) i a refl
-      (passes (fitBook (g .book) ∷ lineNumber i ∷ mustBeOpen l ∷ []) (s .fits, (le-leb i 3 (omega (arith, j .mine .small)), (is-open (s .phase) opened .opened, tt)))) (g .store) out)
+      (passes (fitBook (g .book) ∷ lineNumber i ∷ mustBeOpen l ∷ []) (s .fits, (le-leb i 3 (omega (arith, s .small)), (is-open (s .phase) opened .opened, tt)))) (g .store) out)
 
   pub mode-line : lineAt h i ≡ then
-  mode-line = ap (λ (d : CallResult). lineOf (d .book) i) its ∙ line-same (g .book) (s .shaped) i (j .mine .small) then
+  mode-line = ap (λ (d : CallResult). lineOf (d .book) i) its ∙ line-same (g .book) (s .shaped) i (s .small) then
 
   store : h .store ≡ g .store
   store = ap (λ (d : CallResult). d .store) its
@@ -162,11 +162,11 @@ module _ {i identifier kind : ℕ} {g : Gateway} {p : Past} (s : Sound i identif
       go closed e j = clash e
       go (unused o u) e j =
           let v : Unused (lineAt h i) = subst Unused (sym mode-line) (stepped-unused l next (outcome (l .modes) a .channels) u) in
-          (unused mode-open v, unused-joined j (lineAt h i) (h .store) true u v fits (long-after s c out) refl)
+          (unused mode-open v, unused-joined j (lineAt h i) (partIn h i) true u v fits (part-there h i (long-after s c out) (s .small)) refl)
       go {p} (relaying o t r) e j =
           let same : lineAt h i ≡ steppedTo l next Stay = mode-line ∙ ap (steppedTo l next) (alone r (stay r)) in
-          let k : Joined (record { line = l; i = i; store = g .store; past = p }) f = subst (λ (x : End). Joined x f) (end-now g i p e refl refl) j in (
+          let k : Joined (record { line = l; part = partIn g i; past = p }) f = subst (λ (x : End). Joined x f) (end-now g i p e refl refl) j in (
             relaying mode-open e (stay r),
-            subst (λ (x : End). Joined x f) (sym (end-now h i p e same refl))
-                (moded-joined k next (h .store) (subst (λ (x : Line). lineFits x ≡ true) same fits) (long-after s c out) (slots-same i store)),
+            subst (λ (x : End). Joined x f) (sym (end-now h i p e same (part-same g h i store)))
+                (moded-joined k next (subst (λ (x : Line). lineFits x ≡ true) same fits)),
           )

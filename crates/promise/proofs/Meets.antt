@@ -1,6 +1,7 @@
 -- What the promises assume can be had: two fresh gateways open the line and go into modem relay, and there each message of 1 to 132 octets can be
 -- taken, sent and handed out.
 -- Assumes nothing.
+use Rattle.book.specs.Parts.{storeLength}
 use Prim.Native.Nat.{ℕ, _≤_, _<_}
 use mathlib.Core.Path.{_≡_, refl, sym, ap, subst, _∙_}
 use mathlib.Core.Bool.{true, not}
@@ -11,12 +12,12 @@ use lib.ListN.{length}
 use borrow.Author.Tests.{le-leb}
 use Rattle.ground.proofs.Picks.{pick-by}
 use Rattle.ground.proofs.Verdicts.{passes}
-use Rattle.channel.specs.Channel.{windowOf, cap}
+use Rattle.channel.specs.Channel.{windowOf, cap, largest}
 use Rattle.sending.specs.Sending.{freshSending}
 use Rattle.sending.specs.declared.Sending.{Sending}
 use Rattle.flow.specs.Flow.{Message}
 use Rattle.owed.specs.Owed.{member}
-use Rattle.line.specs.Fit.{largest, settingsFit}
+use Rattle.line.specs.Fit.{settingsFit}
 use Rattle.line.specs.Line.{isOpen, closedLine, openedLine, sendingOf}
 use Rattle.line.specs.declared.Line.{Line}
 use Rattle.line.specs.declared.Settings.{Settings}
@@ -61,7 +62,7 @@ module _ (identifier kind : ℕ) (fitting : settingsFit identifier kind ≡ true
     unfolding tests openTests member openIn
     may-open =
         let free : not (isOpen (lineAt (freshWith store) i)) ≡ true = ap (λ (l : Line). not (isOpen l)) (getD-alike 4 i closedLine) in
-        passes (fitBook freshBook ∷ lineNumber i ∷ openTests freshBook i settings) (fresh-fits, (le-leb i 3 (omega (arith, k .joined .mine .small)), (free, (fitting, (refl, tt)))))
+        passes (fitBook freshBook ∷ lineNumber i ∷ openTests freshBook i settings) (fresh-fits, (le-leb i 3 (omega (arith, k .mine .small)), (free, (fitting, (refl, tt)))))
 
     line : lineAt opened i ≡ openedLine settings 0
     unfolding lineFor effect
@@ -109,7 +110,7 @@ module _ (identifier kind : ℕ) (fitting : settingsFit identifier kind ≡ true
     pub yours : InRelay there j justOpened
     pub unused : Unused (lineAt here i)
 
-  pub both-there : (i j : ℕ) (store1 store2 : List ℕ) → (i < 4) × (j < 4) → (42240 ≤ length store1) × (42240 ≤ length store2) → Met i j
+  pub both-there : (i j : ℕ) (store1 store2 : List ℕ) → (i < 4) × (j < 4) → (storeLength freshBook ≤ length store1) × (storeLength freshBook ≤ length store2) → Met i j
   both-there i j store1 store2 lines long =
       let k = fresh-pair i j identifier kind store1 store2 lines long in
       let n = turned (there-now k) in
@@ -132,7 +133,7 @@ module _ (identifier kind : ℕ) (fitting : settingsFit identifier kind ≡ true
     pub taken : mine .taken channel ≡ m ∷ []
     pub handed : yours .handed channel ≡ m ∷ []
 
-  pub message-comes : (i j : ℕ) (store1 store2 : List ℕ) → (i < 4) × (j < 4) → (42240 ≤ length store1) × (42240 ≤ length store2)
+  pub message-comes : (i j : ℕ) (store1 store2 : List ℕ) → (i < 4) × (j < 4) → (storeLength freshBook ≤ length store1) × (storeLength freshBook ≤ length store2)
       → (channel : ℕ) → reliable channel ≡ true → (m : Message) → 0 < length m → length m ≤ largest → Comes i j channel m
   message-comes i j store1 store2 lines long channel v m some small =
       let met = both-there i j store1 store2 lines long in

@@ -5,7 +5,7 @@ use mathlib.Core.Path.{_≡_, refl, sym, subst}
 use mathlib.Core.Bool.{true}
 use mathlib.Core.List.{List, map}
 use native.Mathlib.Omega.{arith}
-use Rattle.channel.specs.Channel.{modulus, windowOf}
+use Rattle.channel.specs.Channel.{modulus}
 use Rattle.sending.specs.Sending.{heardBase, ackedBy}
 use Rattle.sending.specs.declared.Sending.{Sending}
 use Rattle.flow.specs.Flow.{Flow}
@@ -16,6 +16,7 @@ use Rattle.owed.proofs.Steps.{word-channel, word-number}
 use Rattle.line.specs.Fit.{lineFits}
 use Rattle.line.specs.Shape.{Shaped}
 use Rattle.line.specs.Line.{sendingOf, receivingOf, withSending}
+use Rattle.line.specs.Figures.{sendWindow}
 use Rattle.line.specs.declared.Line.{Line}
 use Rattle.store.specs.declared.Way.the-variants as way
 use Rattle.relay.specs.RelayTests.{reliable}
@@ -30,7 +31,7 @@ use Rattle.promise.proofs.SendingAnew.{sending-joined}
 
 -- the end with another record of its line
 abbrev pub withLine : End → Line → End
-withLine e l = record { line = l; i = e .i; store = e .store; past = e .past }
+withLine e l = record { line = l; part = e .part; past = e .past }
 
 module _ {e f : End} (k : Relaying (e .line)) (j : Joined e f) where
   abbrev l : Line
@@ -38,16 +39,16 @@ module _ {e f : End} (k : Relaying (e .line)) (j : Joined e f) where
 
   -- news leaves a line that is the one before but for a sending side; nothing more is taken, and the store stays
   news-joined : (m : Line) (channel : ℕ) → reliable channel ≡ true → (s : Sending) → m ≡ withSending l channel s → Relaying m → Shaped m
-      → Flow (windowOf channel) (sends (windowOf channel) (slotsOf (e .store) (e .i) way.Sending channel) s) (got f channel) (e .past .taken channel) (f .past .handed channel)
+      → Flow (sendWindow l channel) (sends (sendWindow l channel) (slotsOf l (e .part) way.Sending channel) s) (got f channel) (e .past .taken channel) (f .past .handed channel)
       → Joined (withLine e m) f
   news-joined m channel v s same relaying shaped flow =
       subst (λ (x : Line). Joined (withLine e x) f) (sym same)
-      (sending-joined j channel v s (e .store) (e .past .taken) (k .opened) (k .inside)
+      (sending-joined j channel v s (e .part) (e .past .taken) (k .opened) (k .inside)
       (subst (λ (x : Line). lineFits x ≡ true) same (relaying .fits), subst Shaped same shaped)
       (j .mine .long) (λ c r p q. refl) (λ c r d p q. refl) (λ c n x d. d) (λ c d. refl) flow)
 
   heard-side : (channel base b : ℕ) → reliable channel ≡ true → base ≡ b % modulus
-      → heardLine l channel base ≡ withSending l channel (heardBase (windowOf channel) (sendingOf l channel) (b % modulus))
+      → heardLine l channel base ≡ withSending l channel (heardBase (sendWindow l channel) (sendingOf l channel) (b % modulus))
   unfolding heardLine
   heard-side channel base b v q = rw (v, q) refl
 
@@ -65,8 +66,8 @@ module _ {e f : End} (k : Relaying (e .line)) (j : Joined e f) where
   base-joined channel base (reached b v q g) (also c none) =
       let there = j .there channel v in
       let s = sendingOf l channel in
-      news-joined (heardLine l channel base) channel v (heardBase (windowOf channel) s (b % modulus)) (heard-side channel base b v q) (heard-relaying l k channel base) (heard-shaped l (j .mine .shaped) channel base)
-      (heard-flow (windowOf channel) bound (wide channel) s (receivingOf (f .line) channel) (slotsOf (e .store) (e .i) way.Sending channel) (slotsOf (f .store) (f .i) way.Receiving channel)
+      news-joined (heardLine l channel base) channel v (heardBase (sendWindow l channel) s (b % modulus)) (heard-side channel base b v q) (heard-relaying l k channel base) (heard-shaped l (j .mine .shaped) channel base)
+      (heard-flow (sendWindow l channel) bound (wide channel) s (receivingOf (f .line) channel) (slotsOf l (e .part) way.Sending channel) (slotsOf (f .line) (f .part) way.Receiving channel)
       (e .past .taken channel) (f .past .handed channel) (sends-ok (j .mine .sides) channel) (gets-ok (j .yours .sides) channel) there b g (omega (arith, c, there .count)))
 
   -- "An acknowledged number k on its channel"
@@ -77,7 +78,7 @@ module _ {e f : End} (k : Relaying (e .line)) (j : Joined e f) where
       let there = j .there channel (g .served) in
       let s = sendingOf l channel in
       news-joined (ackedLine l (markWord m)) channel (g .served) (ackedBy s (n % modulus)) (acked-side m) (acked-relaying l k (markWord m)) (acked-shaped l (j .mine .shaped) (markWord m))
-      (acked-flow (windowOf channel) bound (wide channel) s (receivingOf (f .line) channel) (slotsOf (e .store) (e .i) way.Sending channel) (slotsOf (f .store) (f .i) way.Receiving channel)
+      (acked-flow (sendWindow l channel) bound (wide channel) s (receivingOf (f .line) channel) (slotsOf l (e .part) way.Sending channel) (slotsOf (f .line) (f .part) way.Receiving channel)
       (e .past .taken channel) (f .past .handed channel) (sends-ok (j .mine .sides) channel) (gets-ok (j .yours .sides) channel) there n (g .have) (known there n (g .have)) (omega (arith, c, there .count)))
 
 -- "acknowledgements as listed"

@@ -12,10 +12,10 @@ use Rattle.flow.specs.Flow.{Message, Full}
 use Rattle.flow.proofs.Flows.{data-full}
 use Rattle.line.specs.declared.Line.{Line}
 use Rattle.mode.specs.Given.{modem}
-use Rattle.arriving.specs.Effect.{Relaying, heardLine, ackedAll, storedLine, storedStore}
-use Rattle.arriving.specs.Arrive.{arriveTests, newsLine, arrivedLine, arrivedStore}
+use Rattle.arriving.specs.Effect.{Relaying, heardLine, ackedAll, storedLine, storedPart}
+use Rattle.arriving.specs.Arrive.{arriveTests, newsLine, arrivedLine, arrivedPart}
 use Rattle.arriving.proofs.Effects.{heard-relaying}
-use Rattle.arriving.proofs.Arrivals.{news-relaying, payload-length, arrive-passed, arrive-size, news-all, store-all, payload-line, payload-store}
+use Rattle.arriving.proofs.Arrivals.{news-relaying, payload-length, arrive-passes, arrive-size, news-all, part-all, payload-line, payload-part}
 use Rattle.promise.specs.Past.{Mark, Packet, enterAll, heardPast}
 use Rattle.promise.specs.Run.{Each, none, also, Recent, bound, Honest}
 use Rattle.promise.proofs.Lists.{each-at}
@@ -30,15 +30,14 @@ full-length (a ∷ x) v = omega arith
 -- what the peer wrote for this line is refused by none of the line's tests
 pub said-passes : (f : End) (l : Line) (k : Packet) → Says f k → f .line .kind ≡ l .kind → l .modes .local ≡ modem
     → (verdict (headTests (k .octets)) ≡ Pass) × (verdict (arriveTests l (k .octets)) ≡ Pass)
-said-passes f l k says same inside = (says .plain, sym (arrive-passed l (k .octets) (says .typed ∙ same) inside (says .listed) (says .sized)))
+said-passes f l k says same inside = (says .plain, arrive-passes l (k .octets) (says .typed ∙ same) inside (says .listed) (says .sized))
 
 -- the end that packet k has arrived at, with octets s
 abbrev pub afterArrival : End → Packet → List ℕ → End
 afterArrival e k s =
     record {
       line = arrivedLine (e .line) s;
-      i = e .i;
-      store = arrivedStore (e .line) (e .i) s (e .store);
+      part = arrivedPart (e .line) s (e .part);
       past = heardPast (e .past) k;
     }
 
@@ -64,8 +63,7 @@ module _ {e f : End} (relaying : Relaying (e .line)) (j : Joined e f) (k : Packe
   heard ms =
       record {
         line = arrivedLine l s;
-        i = e .i;
-        store = arrivedStore l (e .i) s (e .store);
+        part = arrivedPart l s (e .part);
         past = record { opened = e .past .opened; taken = e .past .taken; handed = e .past .handed; wrote = e .past .wrote; owes = enterAll (e .past .owes) ms; came = ms ++ e .past .came };
       }
 
@@ -74,14 +72,14 @@ module _ {e f : End} (relaying : Relaying (e .line)) (j : Joined e f) (k : Packe
   unfolding enterAll
   payload-joined n [] (nothing q) c =
       let short : length s ≤ headerLength s = omega (arith, payload-length s, ap length q) in
-      transport (λ t. Joined (record { line = news-all l s short t; i = e .i; store = store-all l s short (e .i) (e .store) t; past = e .past }) f) n
+      transport (λ t. Joined (record { line = news-all l s short t; part = part-all l s short (e .part) t; past = e .past }) f) n
   payload-joined n (m ∷ []) (message b v q d) (also c none) =
       let some : 0 < length (payloadOf s) = full-length (payloadOf s) (data-full (n .back channel v) d) in
       let there : headerLength s < length s = omega (arith, payload-length s, some) in
       let lately : length (f .past .taken channel) ≤ b + bound = omega (arith, c) in
       let line = ap (λ (x : ℕ). storedLine (newsLine l s) channel x (length (payloadOf s))) (sym q) ∙ payload-line l s there in
-      let store = ap (λ (x : ℕ). storedStore (newsLine l s) (e .i) channel x (payloadOf s) (e .store)) (sym q) ∙ payload-store l s there (e .i) (e .store) in
-      transport (λ t. Joined (record { line = line t; i = e .i; store = store t; past = heard (m ∷ []) .past }) f)
+      let part = ap (λ (x : ℕ). storedPart (newsLine l s) channel x (payloadOf s) (e .part)) (sym q) ∙ payload-part l s there (e .part) in
+      transport (λ t. Joined (record { line = line t; part = part t; past = heard (m ∷ []) .past }) f)
       (storing-joined (news-relaying l relaying s) n channel v (payloadOf s) (arrive-size l s pass) b d lately some)
 
   -- "An arriving packet takes effect in this order"

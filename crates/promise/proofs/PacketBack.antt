@@ -5,11 +5,9 @@ use mathlib.Core.Path.{_≡_, refl, sym}
 use mathlib.Core.List.{List, [], _∷_}
 use native.Mathlib.Omega.{arith}
 use lib.ListN.{length, take, getD}
-use Rattle.ground.specs.Refusal.{verdict, settle}
-use Rattle.ground.specs.declared.Verdict.{Verdict}
-use Rattle.ground.specs.declared.Verdict.the-variants.{Pass, Refuse}
+use Rattle.ground.specs.Refusal.{verdict}
+use Rattle.ground.specs.declared.Verdict.the-variants.{Pass}
 use Rattle.packet.specs.Acks.{ackList}
-use Rattle.packet.specs.Read.{headAt, headTests, headRead}
 use Rattle.packet.specs.Write.{packetOctets, writeTests}
 use Rattle.packet.specs.declared.Head.{Head}
 use Rattle.packet.specs.declared.Acks.{Acks}
@@ -18,7 +16,8 @@ use Rattle.roundtrip.proofs.Packets.{head-round, acks-round, payload-round}
 use Rattle.owed.specs.Owed.{owedOf, firstThree}
 use Rattle.line.specs.declared.Line.{Line}
 use Rattle.writing.specs.Write.{acksFor}
-use Rattle.arriving.proofs.Arrivals.{head-is, list-said, list-is}
+use Rattle.arriving.proofs.Arrivals.{list-said, list-is}
+use Rattle.incoming.proofs.Arrivals.{head-passes, head-is}
 use Rattle.promise.specs.Demand2.{Says}
 
 -- the acknowledgements of a packet are the first three owed numbers
@@ -32,25 +31,18 @@ pub first-three : (l : Line) → ackList (acksFor l) ≡ take 3 (owedOf (l .owed
 unfolding acksFor firstThree
 first-three l = three (owedOf (l .owed))
 
-head-said : (s : List ℕ) {h : Head} → headRead s ≡ head.Says h → verdict (headTests s) ≡ Pass
-head-said s {h} = go (verdict (headTests s))
-  where
-    go : (v : Verdict) → settle v head.Refused (head.Says (headAt s)) ≡ head.Says h → v ≡ Pass
-    go Pass e = refl
-    go (Refuse q) e = absurd (let z : _≡_ {A = ℕ} 0 1 = cc in omega arith)
-
 pub packet-says : (h : Head) (a : Acks) (payload : List ℕ) (largest space : ℕ) → verdict (writeTests h a payload largest space) ≡ Pass → Says (packetOctets h a payload) h a payload
 packet-says h a payload largest space pass =
     let s = packetOctets h a payload in
     let x = head-round h a payload largest space pass in
     let y = acks-round h a payload largest space pass in
-    let plain = head-said s x in
+    let plain = head-passes s refl x in
     let listed = list-said s y in
     record {
       octets = refl;
       plain = plain;
       listed = listed;
-      head-back = sym (head-is s plain x);
-      acks-back = sym (list-is s listed y);
+      head-back = sym (head-is s refl x);
+      acks-back = sym (list-is s y);
       payload-back = payload-round h a payload largest space pass;
     }

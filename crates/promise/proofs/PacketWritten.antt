@@ -23,7 +23,7 @@ use Rattle.packet.specs.Read.{headAt}
 use Rattle.packet.specs.Write.{packetOctets, writeTests}
 use Rattle.packet.specs.declared.Head.{Head}
 use Rattle.roundtrip.proofs.Packets.{size-round}
-use Rattle.channel.specs.Channel.{modulus, windowOf}
+use Rattle.channel.specs.Channel.{modulus, largest}
 use Rattle.channel.specs.Distance.{placeOf}
 use Rattle.sending.specs.Sending.{heldAt, heldOf}
 use Rattle.sending.specs.declared.Held.{Held}
@@ -34,17 +34,18 @@ use Rattle.flow.specs.View.{Slots}
 use Rattle.flow.proofs.Messages.{message-in, message-full}
 use Rattle.flow.proofs.OneWay.{ranked-message}
 use Rattle.owed.proofs.Steps.{three-leave}
-use Rattle.line.specs.Fit.{largest}
+use Rattle.line.specs.Figures.{sendWindow, sendLargest}
+use Rattle.line.specs.Part.{regionOf}
+use Rattle.line.proofs.Part.{region-end}
 use Rattle.line.specs.Line.{isOpen, sendingOf, receivingOf}
 use Rattle.line.specs.declared.Line.{Line}
 use Rattle.mode.specs.Given.{modem}
-use Rattle.store.specs.Store.{regionOf, octetsIn}
+use Rattle.store.specs.Store.{octetsIn}
 use Rattle.store.specs.declared.Region.{Region}
 use Rattle.store.specs.declared.Way.the-variants as way
-use Rattle.store.proofs.Slots.{region-end}
 use Rattle.store.proofs.Octets.{slot-front}
 use Rattle.relay.specs.RelayTests.{reliable, relayChannelTests}
-use Rattle.relay.proofs.Lines.{channel-span, region-size}
+use Rattle.relay.proofs.Lines.{channel-span, owner-served}
 use Rattle.writing.specs.Write.{acksFor, wroteLine, baseFor, headFor, emptyPacket, emptyTests}
 use Rattle.writing.specs.Send.{ranked, isHeld, heldIn, sendTests, sendVerdict, heldPacket, Sendable}
 use Rattle.writing.specs.declared.SendVerdict.the-variants as may
@@ -58,17 +59,17 @@ use Rattle.promise.proofs.PacketBack.{first-three, packet-says}
 use Rattle.promise.proofs.Lists.{each-take, each-drop, take-map, drop-map}
 use Rattle.promise.proofs.Views.{slots-hold}
 use Rattle.promise.proofs.Ends.{End, Names, nothing, reached, Carries, message, Says, Whole, Joined, mark, markWord, sent, got, sends-ok}
-use Rattle.promise.proofs.SendingAnew.{asked-open, whose-served}
+use Rattle.promise.proofs.SendingAnew.{asked-open}
 
 -- the end that has written packet k
 abbrev pub afterWriting : End → Packet → End
-afterWriting e k = record { line = wroteLine (e .line); i = e .i; store = e .store; past = wrotePast (e .past) k }
+afterWriting e k = record { line = wroteLine (e .line); part = e .part; past = wrotePast (e .past) k }
 
 -- the packet of a held message, by its rank, and an empty packet
 abbrev pub heldBy : End → ℕ → ℕ → Packet
 heldBy e channel rank =
     record {
-      octets = heldPacket (e .line) (e .i) channel (heldIn (ranked (e .line) channel rank)) (e .store);
+      octets = heldPacket (e .line) channel (heldIn (ranked (e .line) channel rank)) (e .part);
       carries = mark channel (heldIn (ranked (e .line) channel rank) .number) ∷ [];
       names = mark channel (receivingOf (e .line) channel .next) ∷ [];
       acks = take 3 (e .past .owes);
@@ -93,7 +94,6 @@ wrote-joined {e} k opened inside says j =
         fits = n .0;
         shaped = n .1;
         sides = record { sending = j .mine .sides .sending; receiving = j .mine .sides .receiving };
-        small = j .mine .small;
         long = j .mine .long;
         owed = three-leave (e .line .owed) ∙ ap (drop 3) (j .mine .owed) ∙ drop-map markWord 3 (e .past .owes);
         owes = each-drop 3 (j .mine .owes);
@@ -176,36 +176,35 @@ module _ {e f : End} (channel rank slot : ℕ) (pass : verdict (sendTests (e .li
   v = send-reliable l (j .mine .fits) channel slot held able
 
   abbrev w : ℕ
-  w = windowOf channel
+  w = sendWindow l channel
 
   abbrev s : Sending
   s = sendingOf l channel
 
   abbrev region : Region
-  region = regionOf (e .i) way.Sending channel
+  region = regionOf l way.Sending channel
 
   abbrev slots : Slots
-  slots = slotsOf (e .store) (e .i) way.Sending channel
+  slots = slotsOf l (e .part) way.Sending channel
 
   found : isHeld (ranked l channel rank) ≡ true
   unfolding sendTests relayChannelTests
   found = passed (sendTests l channel rank slot) pass .1 .1 .1 .0
 
   held-data : (p : Place) → rankOf (maskOf (s .unacked)) rank ≡ p → isHeld (heldAt w s p) ≡ true
-      → Data (e .past .taken channel) (heldIn (heldAt w s p) .number) (octetsIn (e .store) region (heldIn (heldAt w s p) .place) (heldIn (heldAt w s p) .size))
+      → Data (e .past .taken channel) (heldIn (heldAt w s p) .number) (octetsIn (e .part) region (heldIn (heldAt w s p) .place) (heldIn (heldAt w s p) .size))
   held-data Missing q t = clash t
   held-data (At n) q t =
       let k = sends-ok (j .mine .sides) channel in
       let m = ranked-message w slots s rank n k q in
-      let g = sending-sized w largest s (j .mine .sides .sending channel) in
+      let g = sending-sized w (sendLargest l) s (j .mine .sides .sending channel) in
       let bit = rank-holds (maskOf (s .unacked)) rank n q .1 in
       let place = placeOf (s .origin) n w in
       let near : n < w = omega (arith, m .0, k .windowed) in
-      let small : getD (s .sizes) place 0 ≤ largest = leb-true _ _ (both-true (ltb 0 (getD (s .sizes) place 0)) _ (g n near bit) .1) in
-      let full = message-full w slots (s .sizes) (maskOf (s .unacked)) (s .origin) largest (k .placed) g (slots-hold (e .store) (j .mine .long) (e .i) (j .mine .small) way.Sending channel v) n near bit in
-      let view : sent e channel .held (s .base + n) ≡ octetsIn (e .store) region place (getD (s .sizes) place 0)
-      = m .1 ∙ slot-front (e .store) region (omega (arith, region-end _ (whose-served (e .i) way.Sending channel (j .mine .small) v), j .mine .long)) place (getD (s .sizes) place 0)
-      (omega (arith, small, region-size (e .i) way.Sending channel)) in
+      let small : getD (s .sizes) place 0 ≤ sendLargest l = leb-true _ _ (both-true (ltb 0 (getD (s .sizes) place 0)) _ (g n near bit) .1) in
+      let full = message-full w slots (s .sizes) (maskOf (s .unacked)) (s .origin) (sendLargest l) (k .placed) g (slots-hold l (e .part) (j .mine .long) way.Sending channel v) n near bit in
+      let view : sent e channel .held (s .base + n) ≡ octetsIn (e .part) region place (getD (s .sizes) place 0)
+      = m .1 ∙ slot-front (e .part) region w (omega (arith, region-end l (record { way = way.Sending; channel = channel }) (owner-served way.Sending channel v), j .mine .long)) place (getD (s .sizes) place 0) small in
       let there = j .there channel v in
       let whole : Full (sent e channel .held (s .base + n)) = subst Full (message-in w slots (s .sizes) (maskOf (s .unacked)) (s .origin) n bit ∙ sym (m .1)) full in
       record {
@@ -216,9 +215,9 @@ module _ {e f : End} (channel rank slot : ℕ) (pass : verdict (sendTests (e .li
   pub held-says : Says e (heldBy e channel rank)
   unfolding heldPacket heldOf
   held-says =
-      written-says e (j .mine) channel (held .number % modulus) slot (octetsIn (e .store) region (held .place) (held .size)) (mark channel (held .number) ∷ [])
+      written-says e (j .mine) channel (held .number % modulus) slot (octetsIn (e .part) region (held .place) (held .size)) (mark channel (held .number) ∷ [])
       (mark channel (receivingOf l channel .next) ∷ [])
-      (send-passes l (j .mine .fits) channel slot held able (e .i) (j .mine .small) (e .store) (j .mine .long))
+      (send-passes l (j .mine .fits) channel slot held able (e .part) (j .mine .long))
       (reached (receivingOf l channel .next) v base-is (omega arith))
       (message (held .number) v refl (held-data (rankOf (maskOf (s .unacked)) rank) refl found))
     where

@@ -1,6 +1,10 @@
 -- Packets: every message that a line in modem relay holds is written, so is an empty packet, and both read back; and what a packet that is let in
 -- asks of its line.
 -- Assumes nothing.
+use Rattle.promise.proofs.Phases.{part-there}
+use Rattle.promise.specs.Run.{partIn}
+use Rattle.packet.specs.Read.{longestHeader}
+use Rattle.writing.specs.Send.{longestPacket}
 use Prim.Native.Nat.{ℕ, _%_, _≤_, _<_}
 use mathlib.Core.Path.{_≡_, refl, sym, ap, subst, _∙_}
 use mathlib.Core.Bool.{true}
@@ -15,10 +19,10 @@ use Rattle.ground.specs.declared.Verdict.the-variants.{Pass}
 use Rattle.ground.proofs.Picks.{clash}
 use Rattle.ground.proofs.Verdicts.{passed, passes, pass-both, verdict-on}
 use Rattle.packet.specs.Read.{headAt, headTests}
-use Rattle.channel.specs.Channel.{modulus}
+use Rattle.channel.specs.Channel.{modulus, largest}
 use Rattle.sending.specs.Sending.{heldCount}
 use Rattle.sending.specs.declared.Held.{Held}
-use Rattle.line.specs.Fit.{largest, lineFits}
+use Rattle.line.specs.Fit.{lineFits}
 use Rattle.line.specs.Line.{sendingOf}
 use Rattle.line.specs.declared.Line.{Line}
 use Rattle.relay.specs.RelayTests.{reliable}
@@ -54,7 +58,7 @@ module _ {g : Gateway} {i : ℕ} (r : Ready g i) (inside : Relays g i) (channel 
   fits = line-fits (g .book) (r .fits) i
 
   -- a held message is written, by its rank
-  module _ (v : reliable channel ≡ true) (rank : ℕ) (few : rank < heldCount (sendingOf l channel)) (space : 144 ≤ length out) where
+  module _ (v : reliable channel ≡ true) (rank : ℕ) (few : rank < heldCount (sendingOf l channel)) (space : longestPacket (lineAt g i) ≤ length out) where
     abbrev m : Held
     m = heldBy g i channel rank
 
@@ -64,16 +68,16 @@ module _ {g : Gateway} {i : ℕ} (r : Ready g i) (inside : Relays g i) (channel 
     pass : Passes g (call.sending i channel rank) out
     unfolding tests
     pass =
-        let before = fitBook (g .book) ∷ roomy (length (g .store)) ∷ lineNumber i ∷ [] in
+        let before = fitBook (g .book) ∷ roomy (g .book) (length (g .store)) ∷ lineNumber i ∷ [] in
         verdict-on before (sendTests l channel rank (length out)) (passes before (r .fits, (le-leb _ _ (r .long), (le-leb i 3 (omega (arith, r .small)), tt)))) ∙ may-pass
 
     able : Sendable l channel (length out) m
     unfolding sendVerdict
     able = may-sendable l channel rank (length out) fits (ap (λ (x : Verdict). settle x may.Refused (may.Message m)) may-pass)
 
-    sent : given (does g (call.sending i channel rank) out) ≡ heldPacket l i channel m (g .store)
+    sent : given (does g (call.sending i channel rank) out) ≡ heldPacket l channel m (partIn g i)
     unfolding lineFor effect
-    sent = octets-given (ready-sound r) (call.sending i channel rank) out refl pass (heldPacket l i channel m (g .store)) refl refl
+    sent = octets-given (ready-sound r) (call.sending i channel rank) out refl pass (heldPacket l channel m (partIn g i)) refl refl
 
     pub sending-writes : Writes (does g (call.sending i channel rank) out) (headFor l channel (m .number % modulus)) (acksFor l) (octetsBy g i channel m)
     unfolding heldPacket
@@ -81,11 +85,11 @@ module _ {g : Gateway} {i : ℕ} (r : Ready g i) (inside : Relays g i) (channel 
         let h = headFor l channel (m .number % modulus) in (
           call-accepted g (call.sending i channel rank) out pass,
           subst (λ (s : List ℕ). Says s h (acksFor l) (octetsBy g i channel m)) (sym sent)
-              (packet-says h (acksFor l) (octetsBy g i channel m) largest (length out) (send-passes l fits channel (length out) m able i (r .small) (g .store) (r .long))),
+              (packet-says h (acksFor l) (octetsBy g i channel m) largest (length out) (send-passes l fits channel (length out) m able (partIn g i) (part-there g i (r .long) (r .small)))),
         )
 
   -- an empty packet is written
-  module _ (c : channel ≤ 2) (space : 12 ≤ length out) where
+  module _ (c : channel ≤ 2) (space : longestHeader ≤ length out) where
     empty-pass : verdict (emptyTests l channel (length out)) ≡ Pass
     empty-pass = empty-may l (r .opened) inside channel (length out) c space
 
@@ -114,7 +118,7 @@ module _ (g : Gateway) (s out : List ℕ) (taken : accepts (does g (call.arrival
 
   admitted : verdict (arrivalTests (g .book) s) ≡ Pass
   unfolding tests
-  admitted = pass-both (fitBook (g .book) ∷ roomy (length (g .store)) ∷ []) (arrivalTests (g .book) s) (call-passes g (call.arrival s) out taken) .1
+  admitted = pass-both (fitBook (g .book) ∷ roomy (g .book) (length (g .store)) ∷ []) (arrivalTests (g .book) s) (call-passes g (call.arrival s) out taken) .1
 
   halves : (verdict (addressTests (g .book) s) ≡ Pass) × (verdict (arriveTests (lineAt g at) s) ≡ Pass)
   unfolding arrivalTests

@@ -6,12 +6,10 @@ use mathlib.Core.Bool.{true}
 use mathlib.Core.List.{List, _∷_}
 use mathlib.Core.Logic.{_≢_}
 use native.Mathlib.Omega.{arith}
-use lib.Dec.{eqb}
 use lib.ListN.{length}
 use borrow.Author.Tests.{lt-ltb, le-leb}
-use Rattle.ground.proofs.Picks.{pick-by}
 use Rattle.field.specs.Word.{wordOf}
-use Rattle.channel.specs.Channel.{modulus, windowOf}
+use Rattle.channel.specs.Channel.{modulus}
 use Rattle.channel.specs.Sizes.{sizeFits}
 use Rattle.receiving.specs.Receiving.{arrivalOf, arrivalPlace, arrivedAs}
 use Rattle.receiving.specs.declared.Receiving.{Receiving}
@@ -23,28 +21,29 @@ use Rattle.flow.specs.View.{receives, PutAs}
 use Rattle.flow.proofs.Fields.{arrival-field}
 use Rattle.flow.proofs.Flows.{data-full, arrived-grows, arrived-have, arrive-flow}
 use Rattle.flow.proofs.Moves.{arrived-moves}
-use Rattle.owed.specs.Owed.{owedOf, entered, enters}
+use Rattle.owed.specs.Owed.{enters}
 use Rattle.owed.proofs.Steps.{entered-list}
-use Rattle.line.specs.Fit.{largest}
+use Rattle.line.specs.Figures.{receiveWindow, receiveLargest}
+use Rattle.line.specs.Part.{partLength, regionOf}
+use Rattle.line.proofs.Part.{Owner, Served}
+use Rattle.relay.proofs.Lines.{owner-served}
 use Rattle.line.specs.Line.{sendingOf, receivingOf}
 use Rattle.line.specs.declared.Line.{Line}
 use Rattle.line.proofs.Shape.{receiving-long}
-use Rattle.store.specs.Store.{regionOf}
 use Rattle.store.specs.declared.Way.the-variants as way
-use Rattle.store.proofs.Slots.{Owner, Served}
 use Rattle.relay.specs.RelayTests.{reliable}
-use Rattle.arriving.specs.Effect.{Relaying, owingLine, arrivalAt, storedLine, putAs, storedStore}
+use Rattle.arriving.specs.Effect.{Relaying, owingLine, arrivalAt, storedLine, putAs, storedPart}
 use Rattle.channel.proofs.Windows.{window-narrow}
 use Rattle.arriving.proofs.Effects.{stored-near, place-near}
 use Rattle.arriving.proofs.StepsStay.{stored-stays}
-use Rattle.arriving.proofs.Keeps.{stored-relaying, stored-shaped, stored-store-length}
+use Rattle.arriving.proofs.Keeps.{stored-relaying, stored-shaped, stored-part-length}
 use Rattle.promise.specs.Past.{enter}
 use Rattle.promise.specs.Run.{also, bound}
 use Rattle.promise.specs.Ends.{slotsOf}
 use Rattle.promise.proofs.Lists.{each-map}
-use Rattle.promise.proofs.Views.{SameSlots, receiving-here, receiving-other, sending-stays, slots-hold, put-here, put-apart}
+use Rattle.promise.proofs.Views.{SameSlots, receiving-here, receiving-other, slots-hold, put-here, put-apart}
 use Rattle.promise.proofs.Ends.{End, HasCome, Joined, mark, got, gets-ok, wide, flow-as}
-use Rattle.promise.proofs.SendingAnew.{way-apart, channel-apart, whose-served}
+use Rattle.promise.proofs.SendingAnew.{way-apart, channel-apart}
 use Rattle.promise.proofs.ReceivingAnew.{receiving-joined}
 use Rattle.promise.proofs.OwedNumbers.{enter-words, each-enter}
 
@@ -53,36 +52,35 @@ abbrev pub afterStoring : End → ℕ → ℕ → Message → End
 afterStoring e channel n x =
     record {
       line = storedLine (e .line) channel (n % modulus) (length x);
-      i = e .i;
-      store = storedStore (e .line) (e .i) channel (n % modulus) x (e .store);
+      part = storedPart (e .line) channel (n % modulus) x (e .part);
       past = record { opened = e .past .opened; taken = e .past .taken; handed = e .past .handed; wrote = e .past .wrote; owes = enter (e .past .owes) (mark channel n); came = mark channel n ∷ e .past .came };
     }
 
 -- "the message is stored, unless that place is already filled"; an old one "is not stored": what the store has then
-module _ {e f : End} (k : Relaying (e .line)) (j : Joined e f) (channel : ℕ) (v : reliable channel ≡ true) (x : Message) (small : length x ≤ largest) where
+module _ {e f : End} (k : Relaying (e .line)) (j : Joined e f) (channel : ℕ) (v : reliable channel ≡ true) (x : Message) (small : length x ≤ receiveLargest (e .line)) where
   abbrev l : Line
   l = e .line
 
   abbrev w : ℕ
-  w = windowOf channel
+  w = receiveWindow l channel
 
   abbrev r : Receiving
   r = receivingOf l channel
 
   abbrev put : Arrival → List ℕ
-  put a = putAs w r (regionOf (e .i) way.Receiving channel) a x (e .store)
+  put a = putAs w r (regionOf l way.Receiving channel) a x (e .part)
 
   abbrev Near : Arrival → Type 0
   Near a = (d : ℕ) → a ≡ Stored d → d < w
 
-  put-slots : (a : Arrival) → Near a → PutAs w r a (slotsOf (e .store) (e .i) way.Receiving channel) (slotsOf (put a) (e .i) way.Receiving channel) x
-  put-slots (Stored d) near = put-here (e .store) (j .mine .long) (e .i) (j .mine .small) way.Receiving channel v (arrivalPlace w r d) x (place-near l k channel (near d refl)) small
+  put-slots : (a : Arrival) → Near a → PutAs w r a (slotsOf l (e .part) way.Receiving channel) (slotsOf l (put a) way.Receiving channel) x
+  put-slots (Stored d) near = put-here l (e .part) (j .mine .long) way.Receiving channel v (arrivalPlace w r d) x (place-near l k channel (near d refl)) small
   put-slots There near = refl
   put-slots Old near = refl
 
-  put-others : (a : Arrival) → Near a → (y : Owner) → Served y → _≢_ {A = Owner} (record { line = e .i; way = way.Receiving; channel = channel }) y
-      → SameSlots (y .line) (y .way) (y .channel) (e .store) (put a)
-  put-others (Stored d) near y s b = put-apart (e .store) (j .mine .long) (e .i) (j .mine .small) way.Receiving channel v (arrivalPlace w r d) x (place-near l k channel (near d refl)) small y s b
+  put-others : (a : Arrival) → Near a → (y : Owner) → Served y → _≢_ {A = Owner} (record { way = way.Receiving; channel = channel }) y
+      → SameSlots l (y .way) (y .channel) (e .part) (put a)
+  put-others (Stored d) near y s b = put-apart l (e .part) (j .mine .long) way.Receiving channel v (arrivalPlace w r d) x (place-near l k channel (near d refl)) small y s b
   put-others There near y s b = λ p q. refl
   put-others Old near y s b = λ p q. refl
 
@@ -91,7 +89,7 @@ module _ {e f : End} (k : Relaying (e .line)) (j : Joined e f) (channel : ℕ) (
     a = arrivalAt l channel (n % modulus)
 
     abbrev new : Receives
-    new = receives w (slotsOf (put a) (e .i) way.Receiving channel) (arrivedAs w r a (length x))
+    new = receives w (slotsOf l (put a) way.Receiving channel) (arrivedAs w r a (length x))
 
     near : Near a
     near d q = stored-near w r (n % modulus) q
@@ -100,15 +98,15 @@ module _ {e f : End} (k : Relaying (e .line)) (j : Joined e f) (channel : ℕ) (
     comes : PayloadMove (got e channel) new n x
     comes =
         let b = j .back channel v in
-        rw (arrival-field w r n) (arrived-moves w (slotsOf (e .store) (e .i) way.Receiving channel) r (gets-ok (j .mine .sides) channel) largest bound (sendingOf (f .line) channel .taken)
-        (wide channel) (b .mid) (omega (arith, b .low, b .high)) (receiving-sized w largest r (j .mine .sides .receiving channel))
-        (slots-hold (e .store) (j .mine .long) (e .i) (j .mine .small) way.Receiving channel v) (slotsOf (put (arrivalOf w r n)) (e .i) way.Receiving channel) n x
+        rw (arrival-field w r n) (arrived-moves w (slotsOf l (e .part) way.Receiving channel) r (gets-ok (j .mine .sides) channel) (receiveLargest l) bound (sendingOf (f .line) channel .taken)
+        (wide channel) (b .mid) (omega (arith, b .low, b .high)) (receiving-sized w (receiveLargest l) r (j .mine .sides .receiving channel))
+        (slots-hold l (e .part) (j .mine .long) way.Receiving channel v) (slotsOf l (put (arrivalOf w r n)) way.Receiving channel) n x
         (omega (arith, there .known, b .count)) (omega (arith, fresh, b .count)) (omega (arith, receiving-long l (j .mine .shaped) channel, window-narrow channel))
         (put-slots (arrivalOf w r n) (λ d q. stored-near w r n q)))
 
     side : got (afterStoring e channel n x) channel ≡ new
-    unfolding storedLine storedStore
-    side = ap (receives w (slotsOf (put a) (e .i) way.Receiving channel)) (receiving-here (owingLine l channel (n % modulus)) channel (arrivedAs w r a (length x)))
+    unfolding storedLine storedPart
+    side = ap (receives w (slotsOf l (put a) way.Receiving channel)) (receiving-here (owingLine l channel (n % modulus)) channel (arrivedAs w r a (length x)))
 
     -- so every list of what has come stays true, and the message is one of them
     more : Grows (got e channel) (got (afterStoring e channel n x) channel)
@@ -117,29 +115,26 @@ module _ {e f : End} (k : Relaying (e .line)) (j : Joined e f) (channel : ℕ) (
     has : HasCome (got (afterStoring e channel n x)) (mark channel n)
     has = record { served = v; have = subst (λ (y : Receives). Have y n) (sym side) (arrived-have (got e channel) new n x comes (data-full (j .back channel v) there)) }
 
-    long : 42240 ≤ length (storedStore l (e .i) channel (n % modulus) x (e .store))
-    long = omega (arith, j .mine .long, stored-store-length l (e .i) channel (n % modulus) x (e .store))
+    long : partLength l ≤ length (storedPart l channel (n % modulus) x (e .part))
+    long = omega (arith, j .mine .long, stored-part-length l channel (n % modulus) x (e .part))
 
     pub storing-joined : 0 < length x → Joined (afterStoring e channel n x) f
-    unfolding storedLine storedStore
+    unfolding storedLine storedPart
     storing-joined some =
         let number = n % modulus in
         let few : number < 16384 = omega arith in
-        let fits : sizeFits largest (length x) ≡ true = rw (lt-ltb 0 (length x) some, le-leb (length x) largest small) in
+        let fits : sizeFits (receiveLargest l) (length x) ≡ true = rw (lt-ltb 0 (length x) some, le-leb (length x) (receiveLargest l) small) in
         let next = arrivedAs w r a (length x) in
         let q = stored-stays l channel number (length x) in
         receiving-joined j channel (storedLine l channel number (length x)) (put a) (e .past .handed) (enter (e .past .owes) (mark channel n)) (mark channel n ∷ e .past .came)
-        (k .opened) (k .inside) (record { opened = q .opened; identifier = q .identifier; kind = q .kind; modes = q .modes })
+        (k .opened) (k .inside) q
         (stored-relaying l k (j .mine .shaped) channel number v few (length x) fits .fits, stored-shaped l (j .mine .shaped) channel number (length x))
         long
-        (λ c. sending-stays (owingLine l channel number) channel c next) (λ c u d. receiving-other (owingLine l channel number) channel c v u d next)
-        (λ c u. put-others a near (record { line = e .i; way = way.Sending; channel = c }) (whose-served (e .i) way.Sending c (j .mine .small) u) (λ g. way-apart (sym g)))
-        (λ c u d. put-others a near (record { line = e .i; way = way.Receiving; channel = c }) (whose-served (e .i) way.Receiving c (j .mine .small) u) (channel-apart d))
+        (λ c. refl) (λ c u d. receiving-other (owingLine l channel number) channel c v u d next)
+        (λ c u. put-others a near (record { way = way.Sending; channel = c }) (owner-served way.Sending c u) (λ g. way-apart (sym g)))
+        (λ c u d. put-others a near (record { way = way.Receiving; channel = c }) (owner-served way.Receiving c u) (channel-apart d))
         (λ c d. refl)
-        (ap owedOf owing ∙ entered-list (l .owed) (wordOf channel number) ∙ ap (λ (ws : List ℕ). enters ws (wordOf channel number)) (j .mine .owed) ∙ enter-words (e .past .owes) (mark channel n))
+        (entered-list (l .owed) (wordOf channel number) ∙ ap (λ (ws : List ℕ). enters ws (wordOf channel number)) (j .mine .owed) ∙ enter-words (e .past .owes) (mark channel n))
         (λ g. (each-enter (mark channel n) has (each-map g (j .mine .owes)), also has (each-map g (j .mine .came))))
         more
         (flow-as refl side refl refl (arrive-flow (j .back channel v) new n x there comes))
-      where
-        owing : storedLine l channel (n % modulus) (length x) .owed ≡ entered (l .owed) (wordOf channel (n % modulus))
-        owing = pick-by (λ (m : Line). m .owed ≡ entered (l .owed) (wordOf channel (n % modulus))) (eqb channel 1) (λ _. refl) (λ _. refl)

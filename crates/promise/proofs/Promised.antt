@@ -58,7 +58,7 @@ module _ {e f : End} (j : Joined e f) (c : ℕ) (v : reliable c ≡ true) (there
       let r = receivingOf (f .line) c in
       let back : r .next - r .next ≡ 0 = sub-self (r .next) in
       ap (bitOf (maskOf (r .stored))) (sym back)
-      ∙ full-bit (windowOf c) (slotsOf (f .store) (f .i) way.Receiving c) (r .sizes) (maskOf (r .stored)) (r .origin) (r .next - r .next) there
+      ∙ full-bit (windowOf c) (slotsOf (f .line) (f .part) way.Receiving c) (r .sizes) (maskOf (r .stored)) (r .origin) (r .next - r .next) there
 
   pub next-below : got f c .R < sent e c .S
   next-below = j .there c v .keeps (got f c .R) (omega arith) there .0

@@ -5,69 +5,65 @@ use mathlib.Core.Path.{_≡_, refl, sym, ap, subst, _∙_}
 use mathlib.Core.Bool.{true}
 use mathlib.Core.List.{List, [], _∷_, _++_, map}
 use mathlib.Core.Logic.{_≢_}
-use native.Mathlib.Nat.{sub-self}
 use native.Mathlib.Omega.{arith}
-use lib.Dec.{eqb}
 use lib.ListN.{length, take}
 use Rattle.ground.specs.Refusal.{verdict}
 use Rattle.ground.specs.declared.Verdict.the-variants.{Pass}
-use Rattle.ground.proofs.Picks.{pick-by}
 use Rattle.ground.proofs.Verdicts.{passed}
 use Rattle.ground.proofs.Every.{apart}
 use Rattle.places.specs.Places.{maskOf, bitOf}
-use Rattle.channel.specs.Channel.{windowOf}
 use Rattle.receiving.specs.Receiving.{handTests, nextSize, handedOut}
 use Rattle.receiving.specs.declared.Receiving.{Receiving}
 use Rattle.flow.proofs.Keeps.{receiving-sized}
-use Rattle.flow.specs.Flow.{Message, Full, HandOutMove, Flow, Grows}
-use Rattle.flow.specs.View.{messageOf, receives}
+use Rattle.flow.specs.Flow.{Message, HandOutMove, Flow, Grows}
+use Rattle.flow.specs.View.{receives}
 use Rattle.flow.proofs.Flows.{handed-grows}
-use Rattle.flow.proofs.Messages.{message-full}
 use Rattle.flow.proofs.Moves.{handed-moves}
 use Rattle.flow.proofs.OneWay.{handed-flow, next-message}
 use Rattle.owed.specs.Owed.{owedOf}
-use Rattle.line.specs.Fit.{lineFits, largest}
+use Rattle.line.specs.Fit.{lineFits}
+use Rattle.line.specs.Figures.{sendWindow, receiveWindow, receiveLargest}
+use Rattle.line.specs.Part.{slotCount, partLength, regionOf}
+use Rattle.line.proofs.Part.{region-end}
+use Rattle.line.proofs.Same.{SameSettings}
 use Rattle.line.specs.Line.{isOpen, sendingOf, receivingOf}
 use Rattle.line.specs.Shape.{Shaped}
 use Rattle.line.specs.declared.Line.{Line}
 use Rattle.mode.specs.Given.{modem}
 use Rattle.mode.specs.declared.Modes.{Modes}
-use Rattle.store.specs.Store.{regionOf}
 use Rattle.store.specs.declared.Way.the-variants as way
-use Rattle.store.proofs.Slots.{region-end}
 use Rattle.store.proofs.Octets.{slot-front}
 use Rattle.relay.specs.RelayTests.{reliable}
 use Rattle.relay.specs.HandOut.{handCallTests, handedLine, handedOctets}
-use Rattle.relay.proofs.Lines.{region-size, hand-asked, hand-side, hand-reliable, hand-size}
-use Rattle.relay.proofs.Keeps.{SameSettings, handed-line-same, handed-line-keeps}
+use Rattle.relay.proofs.Lines.{owner-served, hand-asked, hand-side, hand-reliable, hand-size}
+use Rattle.relay.proofs.Keeps.{handed-line-same, handed-line-keeps}
 use Rattle.promise.specs.Past.{Mark, more, handedPast}
 use Rattle.promise.specs.Run.{Each, bound}
 use Rattle.promise.specs.Ends.{slotsOf}
 use Rattle.promise.proofs.Lists.{each-map}
-use Rattle.promise.proofs.Views.{SameSlots, sends-kept, receives-kept, receiving-here, receiving-other, sending-stays, slots-hold}
+use Rattle.promise.proofs.Views.{SameSlots, sends-kept, receives-kept, receiving-here, receiving-other, slots-hold}
 use Rattle.promise.proofs.Ends.{End, HasCome, Whole, Joined, markWord, sent, got, sends-ok, gets-ok, wide, relay-sides, came-on, said-on, grows-none, flow-as}
-use Rattle.promise.proofs.SendingAnew.{asked-open, more-here, more-other, whose-served}
+use Rattle.promise.proofs.SendingAnew.{asked-open, more-here, more-other}
 
-module _ {e f : End} (j : Joined e f) (channel : ℕ) (l : Line) (store : List ℕ) (handed : ℕ → List Message) (owes came : List Mark) where
+module _ {e f : End} (j : Joined e f) (channel : ℕ) (l : Line) (part : List ℕ) (handed : ℕ → List Message) (owes came : List Mark) where
   abbrev now : End
   now =
       record {
         line = l;
-        i = e .i;
-        store = store;
+        part = part;
         past = record { opened = e .past .opened; taken = e .past .taken; handed = handed; wrote = e .past .wrote; owes = owes; came = came };
       }
 
-  pub receiving-joined : isOpen (e .line) ≡ true → e .line .modes .local ≡ modem → SameSettings (e .line) l → (lineFits l ≡ true) × Shaped l → 42240 ≤ length store
+  pub receiving-joined : isOpen (e .line) ≡ true → e .line .modes .local ≡ modem → SameSettings (e .line) l → (lineFits l ≡ true) × Shaped l → partLength l ≤ length part
       → ((c : ℕ) → sendingOf l c ≡ sendingOf (e .line) c)
       → ((c : ℕ) → reliable c ≡ true → c ≢ channel → receivingOf l c ≡ receivingOf (e .line) c)
-      → ((c : ℕ) → reliable c ≡ true → SameSlots (e .i) way.Sending c (e .store) store)
-      → ((c : ℕ) → reliable c ≡ true → c ≢ channel → SameSlots (e .i) way.Receiving c (e .store) store)
+      → ((c : ℕ) → reliable c ≡ true → SameSlots (e .line) way.Sending c (e .part) part)
+      → ((c : ℕ) → reliable c ≡ true → c ≢ channel → SameSlots (e .line) way.Receiving c (e .part) part)
       → ((c : ℕ) → c ≢ channel → handed c ≡ e .past .handed c)
       → owedOf (l .owed) ≡ map markWord owes
       → (((m : Mark) → HasCome (got e) m → HasCome (got now) m) → Each (HasCome (got now)) owes × Each (HasCome (got now)) came)
       → Grows (got e channel) (got now channel)
-      → Flow (windowOf channel) (sent f channel) (got now channel) (f .past .taken channel) (handed channel)
+      → Flow (sendWindow (f .line) channel) (sent f channel) (got now channel) (f .past .taken channel) (handed channel)
       → Joined now f
   receiving-joined opened inside n keeps long sending receiving out into same owed marks more flow =
       record {
@@ -75,7 +71,6 @@ module _ {e f : End} (j : Joined e f) (channel : ℕ) (l : Line) (store : List �
           fits = keeps .0;
           shaped = keeps .1;
           sides = relay-sides l (keeps .0) (n .opened ∙ opened) (ap (λ (m : Modes). m .local) (n .modes) ∙ inside);
-          small = j .mine .small;
           long = long;
           owed = owed;
           owes = marks (came-on grows) .0;
@@ -83,13 +78,13 @@ module _ {e f : End} (j : Joined e f) (channel : ℕ) (l : Line) (store : List �
           said = each-map (said-on grows (λ c n x d. d) (n .identifier) (n .kind)) (j .mine .said);
         };
         yours = j .yours;
-        there = λ c r. flow-as (sends-kept (e .store) store (e .i) (e .line) l c (sends-ok (j .mine .sides) c) (sending c) (out c r)) refl refl refl (j .there c r);
-        back = apart (λ c. reliable c ≡ true → Flow (windowOf c) (sent f c) (got now c) (f .past .taken c) (handed c)) channel (λ _. flow)
+        there = λ c r. flow-as (sends-kept (e .part) part (e .line) l c (sends-ok (j .mine .sides) c) (sending c) (out c r)) refl refl refl (j .there c r);
+        back = apart (λ c. reliable c ≡ true → Flow (sendWindow (f .line) c) (sent f c) (got now c) (f .past .taken c) (handed c)) channel (λ _. flow)
             (λ c d r. flow-as refl (gets c d r) refl (same c d) (j .back c r));
       }
     where
       gets : (c : ℕ) → c ≢ channel → reliable c ≡ true → got now c ≡ got e c
-      gets c d r = receives-kept (e .store) store (e .i) (e .line) l c (gets-ok (j .mine .sides) c) (receiving c r d) (into c r d)
+      gets c d r = receives-kept (e .part) part (e .line) l c (gets-ok (j .mine .sides) c) (receiving c r d) (into c r d)
 
       grows : (c : ℕ) → reliable c ≡ true → Grows (got e c) (got now c)
       grows = apart (λ c. reliable c ≡ true → Grows (got e c) (got now c)) channel (λ _. more) (λ c d r. grows-none (gets c d r))
@@ -99,9 +94,8 @@ abbrev pub afterHanding : End → ℕ → End
 afterHanding e channel =
     record {
       line = handedLine (e .line) channel;
-      i = e .i;
-      store = e .store;
-      past = handedPast (e .past) channel (handedOctets (e .line) (e .i) channel (e .store));
+      part = e .part;
+      past = handedPast (e .past) channel (handedOctets (e .line) channel (e .part));
     }
 
 module _ {e f : End} (channel slot : ℕ) (pass : verdict (handCallTests (e .line) channel slot) ≡ Pass) (j : Joined e f) where
@@ -121,37 +115,34 @@ module _ {e f : End} (channel slot : ℕ) (pass : verdict (handCallTests (e .lin
   there = passed (handTests r) (hand-side l (k .fits) channel slot pass) .1 .0
 
   -- the octets that are handed out are those of message R
-  octets : take (nextSize r) (slotsOf (e .store) (e .i) way.Receiving channel (r .origin)) ≡ handedOctets l (e .i) channel (e .store)
+  octets : take (nextSize r) (slotsOf l (e .part) way.Receiving channel (r .origin)) ≡ handedOctets l channel (e .part)
   octets =
-      let s = whose-served (e .i) way.Receiving channel (k .small) v in
-      slot-front (e .store) (regionOf (e .i) way.Receiving channel) (omega (arith, region-end _ s, k .long)) (r .origin) (nextSize r)
-      (omega (arith, hand-size l (k .fits) channel slot pass, region-size (e .i) way.Receiving channel))
+      let s = region-end l (record { way = way.Receiving; channel = channel }) (owner-served way.Receiving channel v) in
+      slot-front (e .part) (regionOf l way.Receiving channel) (slotCount l way.Receiving channel) (omega (arith, s, k .long)) (r .origin) (nextSize r)
+      (hand-size l (k .fits) channel slot pass)
 
-  pub handed-is : got e channel .stored (r .next) ≡ handedOctets l (e .i) channel (e .store)
-  handed-is = next-message (windowOf channel) (slotsOf (e .store) (e .i) way.Receiving channel) r (gets-ok (k .sides) channel .placed) there ∙ octets
+  pub handed-is : got e channel .stored (r .next) ≡ handedOctets l channel (e .part)
+  handed-is = next-message (receiveWindow l channel) (slotsOf l (e .part) way.Receiving channel) r (gets-ok (k .sides) channel .placed) there ∙ octets
 
-  side : got (afterHanding e channel) channel ≡ receives (windowOf channel) (slotsOf (e .store) (e .i) way.Receiving channel) (handedOut (windowOf channel) r)
-  side = ap (receives (windowOf channel) (slotsOf (e .store) (e .i) way.Receiving channel)) (receiving-here l channel (handedOut (windowOf channel) r))
+  side : got (afterHanding e channel) channel ≡ receives (receiveWindow l channel) (slotsOf l (e .part) way.Receiving channel) (handedOut (receiveWindow l channel) r)
+  side = ap (receives (receiveWindow l channel) (slotsOf l (e .part) way.Receiving channel)) (receiving-here l channel (handedOut (receiveWindow l channel) r))
 
   pub hands : HandOutMove (got e channel) (got (afterHanding e channel) channel)
-  hands = subst (HandOutMove (got e channel)) (sym side) (handed-moves (windowOf channel) (slotsOf (e .store) (e .i) way.Receiving channel) r (gets-ok (k .sides) channel))
+  hands = subst (HandOutMove (got e channel)) (sym side) (handed-moves (receiveWindow l channel) (slotsOf l (e .part) way.Receiving channel) r (gets-ok (k .sides) channel))
 
   pub hand-joined : Joined (afterHanding e channel) f
   hand-joined =
-      let w = windowOf channel in
+      let w = receiveWindow l channel in
       let o = asked-open l channel (hand-asked l (k .fits) channel slot pass) in
-      let slots = slotsOf (e .store) (e .i) way.Receiving channel in
-      receiving-joined j channel (handedLine l channel) (e .store) (more (e .past .handed) channel (handedOctets l (e .i) channel (e .store))) (e .past .owes) (e .past .came)
+      let slots = slotsOf l (e .part) way.Receiving channel in
+      receiving-joined j channel (handedLine l channel) (e .part) (more (e .past .handed) channel (handedOctets l channel (e .part))) (e .past .owes) (e .past .came)
       (o .0) (o .1) (handed-line-same l channel) (handed-line-keeps l channel slot (k .fits) (k .shaped) pass) (k .long)
-      (λ c. sending-stays l channel c (handedOut w r)) (λ c u d. receiving-other l channel c v u d (handedOut w r)) (λ c u p q. refl) (λ c u d p q. refl)
-      (more-other (e .past .handed) channel (handedOctets l (e .i) channel (e .store)))
-      (ap owedOf owing ∙ k .owed)
+      (λ c. refl) (λ c u d. receiving-other l channel c v u d (handedOut w r)) (λ c u p q. refl) (λ c u d p q. refl)
+      (more-other (e .past .handed) channel (handedOctets l channel (e .part)))
+      (k .owed)
       (λ g. (each-map g (k .owes), each-map g (k .came)))
       (handed-grows (got e channel) (got (afterHanding e channel) channel) hands)
-      (flow-as refl side refl (more-here (e .past .handed) channel (handedOctets l (e .i) channel (e .store)) ∙ ap (λ (x : Message). e .past .handed channel ++ (x ∷ [])) (sym octets))
-      (handed-flow w bound (wide channel) (sendingOf (f .line) channel) r (slotsOf (f .store) (f .i) way.Sending channel) slots (f .past .taken channel) (e .past .handed channel)
-      (sends-ok (j .yours .sides) channel) (gets-ok (k .sides) channel) (j .back channel v) largest (receiving-sized w largest r (k .sides .receiving channel))
-      (slots-hold (e .store) (k .long) (e .i) (k .small) way.Receiving channel v) there))
-    where
-      owing : handedLine l channel .owed ≡ l .owed
-      owing = pick-by (λ (m : Line). m .owed ≡ l .owed) (eqb channel 1) (λ _. refl) (λ _. refl)
+      (flow-as refl side refl (more-here (e .past .handed) channel (handedOctets l channel (e .part)) ∙ ap (λ (x : Message). e .past .handed channel ++ (x ∷ [])) (sym octets))
+      (handed-flow w bound (wide channel) (sendingOf (f .line) channel) r (slotsOf (f .line) (f .part) way.Sending channel) slots (f .past .taken channel) (e .past .handed channel)
+      (sends-ok (j .yours .sides) channel) (gets-ok (k .sides) channel) (j .back channel v) (receiveLargest l) (receiving-sized w (receiveLargest l) r (k .sides .receiving channel))
+      (slots-hold l (e .part) (k .long) way.Receiving channel v) there))

@@ -1,5 +1,7 @@
 -- Our report counts the messages that are held, one by one, and a count made up at will does not.
 -- Assumes nothing.
+use Rattle.promise.proofs.Phases.{part-there}
+use Rattle.promise.specs.Run.{partIn}
 use Prim.Native.Nat.{ℕ, zero, suc, _+_, _-_, _≤_}
 use mathlib.Core.Path.{_≡_, refl, sym, ap, ap₂, _∙_}
 use mathlib.Core.Bool.{Bool, true, false}
@@ -12,14 +14,13 @@ use Rattle.ground.specs.Pick.{pick}
 use Rattle.ground.proofs.Verdicts.{passes, verdict-on}
 use Rattle.places.specs.Places.{maskOf, bitOf, setBelow}
 use Rattle.places.proofs.Ranks.{count-reach}
-use Rattle.channel.specs.Channel.{windowOf}
+use Rattle.channel.specs.Channel.{windowOf, largest}
 use Rattle.sending.specs.Sending.{SendingOk, heldCount}
 use Rattle.sending.specs.declared.Sending.{Sending}
 use Rattle.flow.proofs.Keeps.{sending-sized}
 use Rattle.flow.specs.Flow.{Message, Sends, Full}
 use Rattle.flow.specs.View.{Slots, messageOf}
 use Rattle.flow.proofs.Messages.{message-none, message-full}
-use Rattle.line.specs.Fit.{largest}
 use Rattle.line.specs.Line.{sendingOf}
 use Rattle.store.specs.declared.Way.the-variants as way
 use Rattle.relay.specs.RelayTests.{reliable, relayChannelTests}
@@ -50,10 +51,10 @@ module _ {g : Gateway} {i : ℕ} (r : Ready g i) (inside : Relays g i) (channel 
   s = sendingOf (lineAt g i) channel
 
   abbrev slots : Slots
-  slots = slotsOf (g .store) i way.Sending channel
+  slots = slotsOf (lineAt g i) (partIn g i) way.Sending channel
 
   abbrev view : Sends
-  view = sendsOf (g .store) i (lineAt g i) channel
+  view = sendsOf (partIn g i) (lineAt g i) channel
 
   sides : Sides (lineAt g i)
   sides = relay-sides (lineAt g i) (line-fits (g .book) (r .fits) i) (r .opened) inside
@@ -74,7 +75,7 @@ module _ {g : Gateway} {i : ℕ} (r : Ready g i) (inside : Relays g i) (channel 
       go : (t : Bool) → bitOf (maskOf (s .unacked)) k ≡ t → some (message k) ≡ bitOf (maskOf (s .unacked)) k
       go true e =
           some-full (message k) (message-full (windowOf channel) slots (s .sizes) (maskOf (s .unacked)) (s .origin) largest (ok .placed) (sending-sized (windowOf channel) largest s (sides .sending channel))
-          (slots-hold (g .store) (r .long) i (r .small) way.Sending channel v) k (omega (arith, ok .windowed)) e)
+          (slots-hold (lineAt g i) (partIn g i) (part-there g i (r .long) (r .small)) way.Sending channel v) k (omega (arith, ok .windowed)) e)
           ∙ sym e
       go false e = ap some (message-none (windowOf channel) slots (s .sizes) (maskOf (s .unacked)) (s .origin) k e) ∙ sym e
 

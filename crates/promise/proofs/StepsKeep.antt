@@ -16,9 +16,12 @@ use Rattle.packet.specs.Read.{headAt, headTests}
 use Rattle.line.specs.Line.{closedLine}
 use Rattle.line.proofs.Keeps.{closed-fits}
 use Rattle.arriving.specs.Effect.{Relaying}
-use Rattle.arriving.specs.Arrive.{arriveTests, arrivedLine, arrivedStore}
+use Rattle.arriving.specs.Arrive.{arriveTests, arrivedLine, arrivedPart}
 use Rattle.arriving.proofs.Stays.{arrived-stays}
-use Rattle.book.specs.Book.{lineOf, ownerOf}
+use Rattle.arriving.proofs.Keeps.{arrived-part-length, arrived-in-store}
+use Rattle.book.proofs.Parts.{part-in}
+use Rattle.book.specs.Book.{freshBook, lineOf, ownerOf}
+use Rattle.book.specs.Parts.{partStart, storeLength}
 use Rattle.book.specs.declared.Owner.{Owner}
 use Rattle.book.specs.declared.Owner.the-variants.{At}
 use Rattle.book.proofs.Facts.{line-fits}
@@ -31,14 +34,14 @@ use Rattle.calls.specs.Order as order
 use Rattle.calls.specs.Result.{effect}
 use Rattle.laws.proofs.Identifiers.{fresh-passes}
 use Rattle.promise.specs.Past.{Packet, Past, nothingYet, heardPast}
-use Rattle.promise.specs.Run.{Gateway, lineAt, Relays, Honest, refused, elsewhere, moded, reported, took, handed, sent, wrote, heard, before, opens, calls, stay, here, there, freshWith}
+use Rattle.promise.specs.Run.{Gateway, lineAt, partIn, Relays, Honest, refused, elsewhere, moded, reported, took, handed, sent, wrote, heard, before, opens, calls, stay, here, there, freshWith}
 use Rattle.promise.specs.Ours.{after, Adds, Step, Goes, Run}
 use Rattle.promise.proofs.Lists.{each-at}
 use Rattle.promise.proofs.Ends.{Joined, turn}
 use Rattle.promise.proofs.PacketArrives.{arrival-joined, arrival-passes}
 use Rattle.promise.proofs.Fresh.{closed-unused, fresh-joined}
-use Rattle.promise.proofs.Phases.{endOf, Open, Phase, closed, unused, relaying, Sound, sound-after, long-after, is-open, before-kept}
-use Rattle.promise.proofs.OwnLine.{Passes, call-passes, line-left, store-left}
+use Rattle.promise.proofs.Phases.{endOf, Open, Phase, closed, unused, relaying, Sound, sound-after, long-after, part-there, is-open, before-kept}
+use Rattle.promise.proofs.OwnLine.{Passes, call-passes, line-left, part-left}
 use Rattle.promise.proofs.CallsKeep.{Left, LeftIn, mine, joined-open, left-in, took-kept, handed-kept, sent-kept, wrote-kept}
 use Rattle.promise.proofs.LineStays.{refused-kept, elsewhere-kept, report-kept, opens-kept, moded-kept}
 
@@ -71,7 +74,7 @@ module _ {i j identifier kind : ℕ} {g h : Gateway} {p q : Past} (s : Sound i i
       let says : headAt (packet .octets) .identifier ≡ pick (q .opened) (lineAt h j) closedLine .identifier = each-at (honest .written) (k .yours .said) .named in
       let its : headAt o .identifier ≡ lineAt g i .identifier
       = ap (λ (x : List ℕ). headAt x .identifier) (sym (honest .same)) ∙ says ∙ rw (peer .0) (peer .1 .named ∙ sym (own .named)) in
-      ap (ownerOf (g .book)) its ∙ whose-found (g .book) (s .fits) (s .shaped) i (k .mine .small) (own .opened)
+      ap (ownerOf (g .book)) its ∙ whose-found (g .book) (s .fits) (s .shaped) i (s .small) (own .opened)
 
   pub arrives-here : lineFor (call.arrival o) (g .book) ≡ i
   unfolding lineFor
@@ -81,7 +84,7 @@ module _ {i j identifier kind : ℕ} {g h : Gateway} {p q : Past} (s : Sound i i
   unfolding tests arrivalTests addressTests
   arrival-tests =
       let b = g .book in
-      verdict-on (fitBook b ∷ roomy (length (g .store)) ∷ []) (arrivalTests b o) (passes (fitBook b ∷ roomy (length (g .store)) ∷ []) (s .fits, (le-leb _ _ (s .long), tt)))
+      verdict-on (fitBook b ∷ roomy b (length (g .store)) ∷ []) (arrivalTests b o) (passes (fitBook b ∷ roomy b (length (g .store)) ∷ []) (s .fits, (le-leb _ _ (s .long), tt)))
       ∙ verdict-on (addressTests b o) (arriveTests (lineOf b (order.lineAt (packetLine b o))) o)
       (verdict-on (headTests o) (must (isSomebody (packetLine b o)) NOLINE ∷ []) (asks .0) ∙ rw found)
       ∙ ap (λ (x : Owner). verdict (arriveTests (lineOf b (order.lineAt x)) o)) found ∙ asks .1
@@ -92,9 +95,10 @@ module _ {i j identifier kind : ℕ} {g h : Gateway} {p q : Past} (s : Sound i i
       let c = call.arrival o in
       let w = arrived-stays (lineAt g i) o in
       let relaying : Relaying (lineAt g i) = record { fits = line-fits (g .book) (s .fits) i; opened = own .opened; inside = r } in
-      left-in s opened k out (after g c out) (arrivedLine (lineAt g i) o) (arrivedStore (lineAt g i) i o (g .store)) (heardPast p packet) opened
-      (line-left s c out arrives-here arrival-tests) (store-left s c out arrives-here arrival-tests)
-      (record { opened = w .opened; identifier = w .identifier; kind = w .kind; modes = w .modes }) r (arrival-joined o packet honest relaying (asks .1) (joined-open s opened k out))
+      left-in s opened k out (after g c out) (arrivedLine (lineAt g i) o) (arrivedPart (lineAt g i) o (partIn g i)) (heardPast p packet) opened
+      (line-left s c out arrives-here arrival-tests) (part-left s c out arrives-here arrival-tests
+      (sym (arrived-in-store (lineAt g i) relaying (partStart (g .book) i) (g .store) (part-in (g .book) (g .store) (s .long) i (s .small)) o (asks .1))) (arrived-part-length (lineAt g i) o (partIn g i)))
+      w r (arrival-joined o packet honest relaying (asks .1) (joined-open s opened k out))
 
 -- what holds of the two at all times
 pub record Pair (i j identifier kind : ℕ) (g : Gateway) (p : Past) (h : Gateway) (q : Past) : Type 0 where
@@ -119,7 +123,7 @@ module _ {i j identifier kind : ℕ} {g h : Gateway} {p q : Past} (k : Pair i j 
 
   pub step-kept : {g′ : Gateway} {p′ : Past} → Step i identifier kind q g p g′ p′ → Pair i j identifier kind g′ p′ h q
   step-kept (before e c out) =
-      let d = before-kept g (after g c out) i (long-after (k .mine) c out) (k .mine .phase) e (k .joined) in
+      let d = before-kept g (after g c out) i (part-there (after g c out) i (long-after (k .mine) c out) (k .mine .small)) (k .mine .phase) e (k .joined) in
       record { mine = sound-after (k .mine) c out (d .0); yours = k .yours; joined = d .1 }
   step-kept (opens e x time out a b t) =
       let d = opens-kept (k .mine) e (k .joined) x time out a b t in
@@ -134,16 +138,17 @@ goes-kept k (here w s) = step-kept (goes-kept k w) s
 goes-kept k (there w s) = turned (step-kept (turned (goes-kept k w)) s)
 
 -- "Take two fresh gateways"
-pub fresh-sound : (i identifier kind : ℕ) (store : List ℕ) → 42240 ≤ length store → Sound i identifier kind (freshWith store) nothingYet
-fresh-sound i identifier kind store long = record { fits = fresh-passes .0; shaped = fresh-passes .1; long = long; phase = closed }
+pub fresh-sound : (i identifier kind : ℕ) (store : List ℕ) → i < 4 → storeLength freshBook ≤ length store → Sound i identifier kind (freshWith store) nothingYet
+fresh-sound i identifier kind store small long = record { fits = fresh-passes .0; shaped = fresh-passes .1; long = long; small = small; phase = closed }
 
-pub fresh-pair : (i j identifier kind : ℕ) (store1 store2 : List ℕ) → (i < 4) × (j < 4) → (42240 ≤ length store1) × (42240 ≤ length store2)
+pub fresh-pair : (i j identifier kind : ℕ) (store1 store2 : List ℕ) → (i < 4) × (j < 4) → (storeLength freshBook ≤ length store1) × (storeLength freshBook ≤ length store2)
     → Pair i j identifier kind (freshWith store1) nothingYet (freshWith store2) nothingYet
 fresh-pair i j identifier kind store1 store2 lines long =
     record {
-      mine = fresh-sound i identifier kind store1 (long .0);
-      yours = fresh-sound j identifier kind store2 (long .1);
-      joined = fresh-joined closedLine closedLine i j store1 store2 false false closed-unused closed-unused (closed-fits closedLine refl) (closed-fits closedLine refl) (lines .0) (lines .1) (long .0) (long .1);
+      mine = fresh-sound i identifier kind store1 (lines .0) (long .0);
+      yours = fresh-sound j identifier kind store2 (lines .1) (long .1);
+      joined = fresh-joined closedLine closedLine (partIn (freshWith store1) i) (partIn (freshWith store2) j) false false closed-unused closed-unused
+          (closed-fits closedLine refl) (closed-fits closedLine refl) (part-there (freshWith store1) i (long .0) (lines .0)) (part-there (freshWith store2) j (long .1) (lines .1));
     }
 
 pub run-kept : {i j identifier kind : ℕ} {g h : Gateway} {p q : Past} → Run i j identifier kind g p h q → Pair i j identifier kind g p h q

@@ -16,7 +16,6 @@ use borrow.Author.Tests.{eqb-true}
 use Rattle.ground.specs.Pick.{pick}
 use Rattle.ground.proofs.Either.{or-second}
 use Rattle.places.specs.Places.{maskOf, bitOf}
-use Rattle.channel.specs.Channel.{windowOf}
 use Rattle.channel.specs.Distance.{placeOf}
 use Rattle.sending.specs.Sending.{SendingOk}
 use Rattle.receiving.specs.Receiving.{ReceivingOk}
@@ -26,21 +25,22 @@ use Rattle.channel.proofs.Distances.{place-lt}
 use Rattle.flow.proofs.Sized.{bit-below}
 use Rattle.flow.specs.Flow.{Message}
 use Rattle.flow.specs.View.{Slots, messageAt, messageOf, sends, receives, PutAt, SlotsHold}
-use Rattle.line.specs.Fit.{largest}
-use Rattle.line.specs.Line.{sendingOf, receivingOf, withSides, withSending, withReceiving}
+use Rattle.line.specs.Figures.{sendWindow, receiveWindow}
+use Rattle.line.specs.Part.{slotCount, slotSize, partLength, regionOf}
+use Rattle.line.proofs.Part.{Owner, Served, region-end, regions-apart}
+use Rattle.line.specs.Line.{sendingOf, receivingOf, withSending, withReceiving}
 use Rattle.line.specs.declared.Line.{Line}
-use Rattle.store.specs.Store.{slotAt, regionEnd}
+use Rattle.store.specs.Store.{slotAt}
 use Rattle.store.specs.declared.Way.{Way}
 use Rattle.store.specs.declared.Way.the-variants as way
-use Rattle.store.proofs.Slots.{Owner, Served, region, region-end, regions-apart}
 use Rattle.store.proofs.Octets.{slot-length, slot-put, slot-kept, region-kept}
 use Rattle.relay.specs.RelayTests.{reliable}
-use Rattle.relay.proofs.Lines.{channel-span, region-places, region-size}
+use Rattle.relay.proofs.Lines.{owner-served}
 use Rattle.promise.specs.Ends.{slotsOf, sendsOf, receivesOf}
 
--- two stores have the same in the slots of a line, a way and a channel
-abbrev pub SameSlots : ℕ → Way → ℕ → List ℕ → List ℕ → Type 0
-SameSlots i w channel store after = (p : ℕ) → p < windowOf channel → slotsOf after i w channel p ≡ slotsOf store i w channel p
+-- two parts have the same in the slots of a way and a channel
+abbrev pub SameSlots : Line → Way → ℕ → List ℕ → List ℕ → Type 0
+SameSlots l w channel part after = (p : ℕ) → p < slotCount l w channel → slotsOf l after w channel p ≡ slotsOf l part w channel p
 
 -- the slots of the window's places decide what is seen
 module _ (w : ℕ) (slot after : Slots) (same : (p : ℕ) → p < w → after p ≡ slot p) where
@@ -63,121 +63,91 @@ module _ (w : ℕ) (slot after : Slots) (same : (p : ℕ) → p < w → after p 
       let f = fun-ext (λ n. message-same (r .sizes) (maskOf (r .stored)) (r .origin) (k .placed) (k .masked) (n - r .next)) in
       λ t. record { R = r .next; stored = f t }
 
--- so a line's views are those of another record and another store that agree on the channel
-module _ (store after : List ℕ) (i : ℕ) (l m : Line) (channel : ℕ) where
-  pub sends-kept : SendingOk (windowOf channel) (sendingOf l channel) → sendingOf m channel ≡ sendingOf l channel → SameSlots i way.Sending channel store after
-      → sendsOf after i m channel ≡ sendsOf store i l channel
+-- so a line's views are those of another record and another part that agree on the channel
+module _ (part after : List ℕ) (l m : Line) (channel : ℕ) where
+  pub sends-kept : SendingOk (sendWindow l channel) (sendingOf l channel) → sendingOf m channel ≡ sendingOf l channel → SameSlots l way.Sending channel part after
+      → sendsOf after m channel ≡ sendsOf part l channel
   sends-kept k e same =
-      ap (λ (s : Sending). sends (windowOf channel) (slotsOf after i way.Sending channel) s) e
-      ∙ sends-same (windowOf channel) (slotsOf store i way.Sending channel) (slotsOf after i way.Sending channel) same (sendingOf l channel) k
+      ap (λ (s : Sending). sends (sendWindow l channel) (slotsOf l after way.Sending channel) s) e
+      ∙ sends-same (sendWindow l channel) (slotsOf l part way.Sending channel) (slotsOf l after way.Sending channel) same (sendingOf l channel) k
 
-  pub receives-kept : ReceivingOk (windowOf channel) (receivingOf l channel) → receivingOf m channel ≡ receivingOf l channel → SameSlots i way.Receiving channel store after
-      → receivesOf after i m channel ≡ receivesOf store i l channel
+  pub receives-kept : ReceivingOk (receiveWindow l channel) (receivingOf l channel) → receivingOf m channel ≡ receivingOf l channel → SameSlots l way.Receiving channel part after
+      → receivesOf after m channel ≡ receivesOf part l channel
   receives-kept k e same =
-      ap (λ (r : Receiving). receives (windowOf channel) (slotsOf after i way.Receiving channel) r) e
-      ∙ receives-same (windowOf channel) (slotsOf store i way.Receiving channel) (slotsOf after i way.Receiving channel) same (receivingOf l channel) k
+      ap (λ (r : Receiving). receives (receiveWindow l channel) (slotsOf l after way.Receiving channel) r) e
+      ∙ receives-same (receiveWindow l channel) (slotsOf l part way.Receiving channel) (slotsOf l after way.Receiving channel) same (receivingOf l channel) k
 
 -- A side put anew: it is what its channel has, and the other channel and the other way have what they had.
 module _ (l : Line) where
-  abbrev sentAnew : Bool → Sending → Line
-  sentAnew t s = pick t (withSides l s (l .sending2) (l .receiving1) (l .receiving2)) (withSides l (l .sending1) s (l .receiving1) (l .receiving2))
-
-  abbrev gotAnew : Bool → Receiving → Line
-  gotAnew t r = pick t (withSides l (l .sending1) (l .sending2) r (l .receiving2)) (withSides l (l .sending1) (l .sending2) (l .receiving1) r)
-
   module _ (channel : ℕ) where
     pub sending-here : (s : Sending) → sendingOf (withSending l channel s) channel ≡ s
     sending-here s = go (eqb channel 1)
       where
-        go : (t : Bool) → pick t (sentAnew t s .sending1) (sentAnew t s .sending2) ≡ s
+        go : (t : Bool) → pick t (pick t s (l .sending1)) (pick t (l .sending2) s) ≡ s
         go true = refl
         go false = refl
 
     pub receiving-here : (r : Receiving) → receivingOf (withReceiving l channel r) channel ≡ r
     receiving-here r = go (eqb channel 1)
       where
-        go : (t : Bool) → pick t (gotAnew t r .receiving1) (gotAnew t r .receiving2) ≡ r
+        go : (t : Bool) → pick t (pick t r (l .receiving1)) (pick t (l .receiving2) r) ≡ r
         go true = refl
         go false = refl
 
-    module _ (c : ℕ) where
-      pub receiving-stays : (s : Sending) → receivingOf (withSending l channel s) c ≡ receivingOf l c
-      receiving-stays s = go (eqb channel 1)
+    -- of two channels that are reliable one is 1 and the other is 2
+    module _ (c : ℕ) (v : reliable channel ≡ true) (w : reliable c ≡ true) (d : c ≢ channel) where
+      both-one : eqb c 1 ≡ true → eqb channel 1 ≡ true → ⊥
+      both-one a b = d (eqb-true _ _ a ∙ sym (eqb-true _ _ b))
+
+      both-two : eqb c 1 ≡ false → eqb channel 1 ≡ false → ⊥
+      both-two a b = d (eqb-true _ _ (or-second (eqb c 1) (eqb c 2) w a) ∙ sym (eqb-true _ _ (or-second (eqb channel 1) (eqb channel 2) v b)))
+
+      pub sending-other : (s : Sending) → sendingOf (withSending l channel s) c ≡ sendingOf l c
+      sending-other s = go (eqb c 1) (eqb channel 1) both-one both-two
         where
-          go : (u : Bool) → pick (eqb c 1) (sentAnew u s .receiving1) (sentAnew u s .receiving2) ≡ receivingOf l c
-          go true = refl
-          go false = refl
+          go : (t u : Bool) → (t ≡ true → u ≡ true → ⊥) → (t ≡ false → u ≡ false → ⊥)
+              → pick t (pick u s (l .sending1)) (pick u (l .sending2) s) ≡ pick t (l .sending1) (l .sending2)
+          go true true f g = absurd (f refl refl)
+          go true false f g = refl
+          go false true f g = refl
+          go false false f g = absurd (g refl refl)
 
-      pub sending-stays : (r : Receiving) → sendingOf (withReceiving l channel r) c ≡ sendingOf l c
-      sending-stays r = go (eqb channel 1)
+      pub receiving-other : (r : Receiving) → receivingOf (withReceiving l channel r) c ≡ receivingOf l c
+      receiving-other r = go (eqb c 1) (eqb channel 1) both-one both-two
         where
-          go : (u : Bool) → pick (eqb c 1) (gotAnew u r .sending1) (gotAnew u r .sending2) ≡ sendingOf l c
-          go true = refl
-          go false = refl
-
-      -- of two channels that are reliable one is 1 and the other is 2
-      module _ (v : reliable channel ≡ true) (w : reliable c ≡ true) (d : c ≢ channel) where
-        both-one : eqb c 1 ≡ true → eqb channel 1 ≡ true → ⊥
-        both-one a b = d (eqb-true _ _ a ∙ sym (eqb-true _ _ b))
-
-        both-two : eqb c 1 ≡ false → eqb channel 1 ≡ false → ⊥
-        both-two a b = d (eqb-true _ _ (or-second (eqb c 1) (eqb c 2) w a) ∙ sym (eqb-true _ _ (or-second (eqb channel 1) (eqb channel 2) v b)))
-
-        pub sending-other : (s : Sending) → sendingOf (withSending l channel s) c ≡ sendingOf l c
-        sending-other s = go (eqb c 1) (eqb channel 1) both-one both-two
-          where
-            go : (t u : Bool) → (t ≡ true → u ≡ true → ⊥) → (t ≡ false → u ≡ false → ⊥)
-                → pick t (sentAnew u s .sending1) (sentAnew u s .sending2) ≡ pick t (l .sending1) (l .sending2)
-            go true true f g = absurd (f refl refl)
-            go true false f g = refl
-            go false true f g = refl
-            go false false f g = absurd (g refl refl)
-
-        pub receiving-other : (r : Receiving) → receivingOf (withReceiving l channel r) c ≡ receivingOf l c
-        receiving-other r = go (eqb c 1) (eqb channel 1) both-one both-two
-          where
-            go : (t u : Bool) → (t ≡ true → u ≡ true → ⊥) → (t ≡ false → u ≡ false → ⊥)
-                → pick t (gotAnew u r .receiving1) (gotAnew u r .receiving2) ≡ pick t (l .receiving1) (l .receiving2)
-            go true true f g = absurd (f refl refl)
-            go true false f g = refl
-            go false true f g = refl
-            go false false f g = absurd (g refl refl)
+          go : (t u : Bool) → (t ≡ true → u ≡ true → ⊥) → (t ≡ false → u ≡ false → ⊥)
+              → pick t (pick u r (l .receiving1)) (pick u (l .receiving2) r) ≡ pick t (l .receiving1) (l .receiving2)
+          go true true f g = absurd (f refl refl)
+          go true false f g = refl
+          go false true f g = refl
+          go false false f g = absurd (g refl refl)
 
 -- A message put into the slot of a place of the window.
-module _ (store : List ℕ) (long : 42240 ≤ length store) (i : ℕ) (small : i < 4) (w : Way) (channel : ℕ) (v : reliable channel ≡ true) where
+module _ (l : Line) (part : List ℕ) (long : partLength l ≤ length part) (w : Way) (channel : ℕ) (v : reliable channel ≡ true) where
   abbrev own : Owner
-  own = record { line = i; way = w; channel = channel }
+  own = record { way = w; channel = channel }
 
-  served : Served own
-  served = let c = channel-span channel v in record { lines = omega arith; low = c .0; high = c .1 }
-
-  in-store : regionEnd (region own) ≤ length store
-  in-store = omega (arith, region-end own served)
+  in-part : slotAt (regionOf l w channel) (slotCount l w channel) ≤ length part
+  in-part = omega (arith, region-end l own (owner-served w channel v))
 
   -- each slot holds the largest message
-  pub slots-hold : SlotsHold (windowOf channel) largest (slotsOf store i w channel)
-  slots-hold p l = omega (arith, slot-length store (region own) in-store p (rw (region-places i w channel) l), region-size i w channel)
+  pub slots-hold : SlotsHold (slotCount l w channel) (slotSize l w) (slotsOf l part w channel)
+  slots-hold p q = omega (arith, slot-length part (regionOf l w channel) (slotCount l w channel) in-part p q)
 
-  module _ (p : ℕ) (x : Message) (near : p < windowOf channel) (fits : length x ≤ largest) where
+  module _ (p : ℕ) (x : Message) (near : p < slotCount l w channel) (fits : length x ≤ slotSize l w) where
     abbrev after : List ℕ
-    after = sets store (slotAt (region own) p) x
-
-    placed : p < region own .places
-    placed = rw (region-places i w channel) near
-
-    sized : length x ≤ region own .size
-    sized = rw (region-size i w channel) fits
+    after = sets part (slotAt (regionOf l w channel) p) x
 
     -- it lies there, and the channel's other slots stay
-    pub put-here : PutAt (windowOf channel) (slotsOf store i w channel) (slotsOf after i w channel) p x
+    pub put-here : PutAt (slotCount l w channel) (slotsOf l part w channel) (slotsOf l after w channel) p x
     put-here =
         record {
-          here = slot-put store (region own) in-store p x placed sized;
-          others = λ q l d. slot-kept store (region own) in-store p x placed sized q d;
+          here = slot-put part (regionOf l w channel) (slotCount l w channel) in-part p x near fits;
+          others = λ q h d. slot-kept part (regionOf l w channel) (slotCount l w channel) in-part p x near fits q d;
         }
 
-    -- the slots of another line, way or channel stay
-    pub put-apart : (y : Owner) → Served y → own ≢ y → SameSlots (y .line) (y .way) (y .channel) store after
-    put-apart y s d q l =
-        region-kept store (region own) in-store p x placed sized (region y) (regions-apart own y served s d) q
-        (rw (region-places (y .line) (y .way) (y .channel)) l)
+    -- the slots of the other way and of the other channel stay
+    pub put-apart : (y : Owner) → Served y → own ≢ y → SameSlots l (y .way) (y .channel) part after
+    put-apart y s d q h =
+        region-kept part (regionOf l w channel) (slotCount l w channel) in-part p x near fits (regionOf l (y .way) (y .channel)) (slotCount l (y .way) (y .channel))
+        (regions-apart l own y (owner-served w channel v) s d) q h

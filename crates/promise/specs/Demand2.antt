@@ -10,7 +10,7 @@ use Rattle.ground.specs.Answer.{Answer, accepted}
 use Rattle.ground.specs.Pick.{bit}
 use Rattle.ground.specs.Refusal.{verdict}
 use Rattle.ground.specs.declared.Verdict.the-variants.{Pass}
-use Rattle.packet.specs.Read.{headAt, acksAt, payloadOf, headTests, listTests}
+use Rattle.packet.specs.Read.{longestHeader, headAt, acksAt, payloadOf, headTests, listTests}
 use Rattle.packet.specs.Write.{packetOctets}
 use Rattle.packet.specs.declared.Head.{Head}
 use Rattle.packet.specs.declared.Acks.{Acks}
@@ -36,18 +36,20 @@ use Rattle.mode.specs.TableC2.{permitted}
 use Rattle.mode.specs.Acts.{Act, hear, ask, outcome}
 use Rattle.mode.specs.declared.Modes.{Modes}
 use Rattle.line.specs.Line.{isOpen, sendingOf}
+use Rattle.line.specs.Part.{regionOf}
 use Rattle.line.specs.declared.Line.{Line}
-use Rattle.store.specs.Store.{regionOf, octetsIn}
+use Rattle.store.specs.Store.{octetsIn}
 use Rattle.store.specs.declared.Way.the-variants as way
 use Rattle.relay.specs.RelayTests.{reliable}
 use Rattle.writing.specs.Write.{acksFor, headFor}
-use Rattle.writing.specs.Send.{ranked, heldIn}
+use Rattle.writing.specs.Send.{ranked, heldIn, longestPacket}
 use Rattle.book.specs.Book.{bookFits}
+use Rattle.book.specs.Parts.{storeLength}
 use Rattle.book.specs.Shape.{BookShaped}
 use Rattle.calls.specs.Call as call
 use Rattle.calls.specs.Result.{CallResult, slipOf}
 use Rattle.promise.specs.Build.{Left, octetsLeft, Build}
-use Rattle.promise.specs.Run.{Gateway, does, after, accepts, given, lineAt, Relays}
+use Rattle.promise.specs.Run.{Gateway, does, after, accepts, given, lineAt, partIn, Relays}
 
 -- "What we write reads back as the values we wrote": the body is written, in these octets, and they read as the answer
 pub record Back (w : Left) (octets : List ℕ) (read : List ℕ → Answer) (says : Answer) : Type 0 where
@@ -72,7 +74,7 @@ Writes d head acks payload = (accepts d ≡ true) × Says (given d) head acks pa
 pub record Ready (g : Gateway) (i : ℕ) : Type 0 where
   pub fits : bookFits (g .book) ≡ true
   pub shaped : BookShaped (g .book)
-  pub long : 42240 ≤ length (g .store)
+  pub long : storeLength (g .book) ≤ length (g .store)
   pub small : i < 4
   pub opened : isOpen (lineAt g i) ≡ true
 
@@ -81,7 +83,7 @@ abbrev pub heldBy : Gateway → ℕ → ℕ → ℕ → Held
 heldBy g i channel rank = heldIn (ranked (lineAt g i) channel rank)
 
 abbrev pub octetsBy : Gateway → ℕ → ℕ → Held → List ℕ
-octetsBy g i channel m = octetsIn (g .store) (regionOf i way.Sending channel) (m .place) (m .size)
+octetsBy g i channel m = octetsIn (partIn g i) (regionOf (lineAt g i) way.Sending channel) (m .place) (m .size)
 
 -- the line is the packet's, and in modem relay
 pub record Entitled (l : Line) (s : List ℕ) : Type 0 where
@@ -104,7 +106,7 @@ pub record Demand2 (b : Build) : Type 0 where
   pub break-read : (s : List ℕ) → verdict (breaks.readTests s) ≡ Pass → b .bodies .breakRead s ≡ breaks.answerOf (breakReading.Says (breakAt s))
   pub slip-read : (s : List ℕ) → verdict (slip.readTests s) ≡ Pass → b .bodies .slipRead s ≡ slip.answerOf (slipReading.Says (slip.slipAt s))
   -- "Closing writes a slip", and "Slips are also read back"
-  pub slip-back : (g : Gateway) (i : ℕ) → Ready g i → (out : List ℕ) → 12 ≤ length out
+  pub slip-back : (g : Gateway) (i : ℕ) → Ready g i → (out : List ℕ) → slip.slipLength ≤ length out
       → let l = lineAt g i in
       (accepts (does (b .does) g (call.closing i) out) ≡ true)
       × (given (does (b .does) g (call.closing i) out) ≡ slip.slipOctets (slipOf l))
@@ -112,10 +114,10 @@ pub record Demand2 (b : Build) : Type 0 where
       ≡ accepted (l .identifier ∷ l .kind ∷ l .receiving1 .next ∷ l .receiving2 .next ∷ bit (ended (l .modes)) ∷ []))
   -- every message that the line holds is written, and so is an empty packet
   pub sending-back : (g : Gateway) (i : ℕ) → Ready g i → Relays g i → (channel : ℕ) → reliable channel ≡ true → (rank : ℕ) → rank < heldCount (sendingOf (lineAt g i) channel)
-      → (out : List ℕ) → 144 ≤ length out
+      → (out : List ℕ) → longestPacket (lineAt g i) ≤ length out
       → let m = heldBy g i channel rank in
       Writes (does (b .does) g (call.sending i channel rank) out) (headFor (lineAt g i) channel (m .number % modulus)) (acksFor (lineAt g i)) (octetsBy g i channel m)
-  pub empty-back : (g : Gateway) (i : ℕ) → Ready g i → Relays g i → (channel : ℕ) → channel ≤ 2 → (out : List ℕ) → 12 ≤ length out
+  pub empty-back : (g : Gateway) (i : ℕ) → Ready g i → Relays g i → (channel : ℕ) → channel ≤ 2 → (out : List ℕ) → longestHeader ≤ length out
       → Writes (does (b .does) g (call.empty i channel) out) (headFor (lineAt g i) channel 0) (acksFor (lineAt g i)) []
   -- "No relay packet is accepted outside modem relay": the answer names the line
   pub inside : (g : Gateway) (s out : List ℕ) → accepts (does (b .does) g (call.arrival s) out) ≡ true

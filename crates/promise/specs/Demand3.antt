@@ -6,12 +6,17 @@ use mathlib.Core.Path.{_≡_}
 use mathlib.Core.Bool.{true}
 use mathlib.Core.List.{List}
 use lib.ListN.{length}
-use Rattle.channel.specs.Channel.{windowOf, cap}
+use Rattle.channel.specs.Channel.{cap}
 use Rattle.flow.specs.Flow.{Message, Full}
 use Rattle.mode.specs.Given.{modem}
 use Rattle.mode.specs.Acts.{ask}
 use Rattle.line.specs.Line.{isOpen}
-use Rattle.line.specs.Fit.{largest, settingsFit}
+use Rattle.line.specs.Fit.{settingsFit}
+use Rattle.line.specs.Figures.{sendWindow, sendLargest, receiveLargest}
+use Rattle.packet.specs.Read.{longestHeader}
+use Rattle.writing.specs.Send.{longestPacket}
+use Rattle.book.specs.Book.{freshBook}
+use Rattle.book.specs.Parts.{storeLength}
 use Rattle.line.specs.declared.Settings.{Settings}
 use Rattle.relay.specs.RelayTests.{reliable}
 use Rattle.calls.specs.Call.{Call}
@@ -37,15 +42,15 @@ pub record Begins (f : Does) (g : Gateway) (i : ℕ) (s : Settings) (time then :
 module _ (f : Does) (i j identifier kind : ℕ) (g : Gateway) (p : Past) (h : Gateway) (q : Past) where
   pub record Served : Type 0 where
     -- a message with room is taken
-    pub takes : (channel : ℕ) → reliable channel ≡ true → (m : Message) → 1 ≤ length m → length m ≤ largest → sendsBy g i p channel .S < cap
-        → sendsBy g i p channel .S - sendsBy g i p channel .h < windowOf channel → (out : List ℕ) → Serves f g i (call.taking i channel m) out
+    pub takes : (channel : ℕ) → reliable channel ≡ true → (m : Message) → 1 ≤ length m → length m ≤ sendLargest (lineAt g i) → sendsBy g i p channel .S < cap
+        → sendsBy g i p channel .S - sendsBy g i p channel .h < sendWindow (lineAt g i) channel → (out : List ℕ) → Serves f g i (call.taking i channel m) out
     -- every message that is held has a rank below what the report says, and every such rank is written
     pub ranks : (channel : ℕ) → reliable channel ≡ true → (n : ℕ) → sendsBy g i p channel .h ≤ n → n < sendsBy g i p channel .S → Full (sendsBy g i p channel .held n)
         → (rank : ℕ) × (rank < reportBy f g i channel) × (rankedMark g i channel rank .number ≡ n)
-    pub sends : (channel : ℕ) → reliable channel ≡ true → (rank : ℕ) → rank < reportBy f g i channel → (out : List ℕ) → 144 ≤ length out → Serves f g i (call.sending i channel rank) out
-    pub empties : (channel : ℕ) → channel ≤ 2 → (out : List ℕ) → 12 ≤ length out → Serves f g i (call.empty i channel) out
+    pub sends : (channel : ℕ) → reliable channel ≡ true → (rank : ℕ) → rank < reportBy f g i channel → (out : List ℕ) → longestPacket (lineAt g i) ≤ length out → Serves f g i (call.sending i channel rank) out
+    pub empties : (channel : ℕ) → channel ≤ 2 → (out : List ℕ) → longestHeader ≤ length out → Serves f g i (call.empty i channel) out
     -- message R is handed out where it is stored
-    pub hands : (channel : ℕ) → reliable channel ≡ true → Full (receivesBy g i p channel .stored (receivesBy g i p channel .R)) → (out : List ℕ) → largest ≤ length out
+    pub hands : (channel : ℕ) → reliable channel ≡ true → Full (receivesBy g i p channel .stored (receivesBy g i p channel .R)) → (out : List ℕ) → receiveLargest (lineAt g i) ≤ length out
         → Serves f g i (call.handOut i channel) out
     -- every packet that the premise speaks of finds the line and is let in
     pub arrives : (s : List ℕ) (packet : Packet) → Honest p q s packet → (out : List ℕ) → (lineFor (call.arrival s) (g .book) ≡ i) × Serves f g i (call.arrival s) out
@@ -58,7 +63,7 @@ module _ (f : Does) (i j identifier kind : ℕ) (g : Gateway) (p : Past) (h : Ga
 
 pub record Demand3 (b : Build) : Type 0 where
   -- "Take two fresh gateways .. that open a line with one identifier and payload type": they can, and come to modem relay
-  pub begins : (store : List ℕ) → 42240 ≤ length store → (i : ℕ) → i < 4 → (s : Settings) → settingsFit (s .identifier) (s .kind) ≡ true → s .relay ≡ true
+  pub begins : (store : List ℕ) → storeLength freshBook ≤ length store → (i : ℕ) → i < 4 → (s : Settings) → settingsFit (s .identifier) (s .kind) ≡ true → s .relay ≡ true
       → (time then : ℕ) → time ≤ then → (out : List ℕ) → Begins (b .does) (freshWith store) i s time then out
   -- "on each reliable channel, each way, the messages taken for sending are always those handed out, in order and octet for octet, followed by
   -- those still waiting. Each waiting message is held at one end or the other."

@@ -8,7 +8,7 @@ use mathlib.Core.List.{List, [], _++_, List·Memᴰ}
 use mathlib.Core.Logic.{_⊎_}
 use lib.ListN.{length, getD}
 use Rattle.ground.specs.Pick.{pick}
-use Rattle.line.specs.Fit.{largest}
+use Rattle.channel.specs.Channel.{largest}
 use Rattle.line.specs.Line.{closedLine, receivingOf}
 use Rattle.line.specs.declared.Line.{Line}
 use Rattle.relay.specs.RelayTests.{reliable}
@@ -16,19 +16,19 @@ use Rattle.calls.specs.Call as call
 use Rattle.flow.specs.Flow.{Sends, Receives, Full, waiting}
 use Rattle.promise.specs.Build.{Does}
 use Rattle.promise.specs.Past.{Past, handedPast}
-use Rattle.promise.specs.Run.{Gateway, does, after, accepts, given, lineAt, Relays, Goes}
+use Rattle.promise.specs.Run.{Gateway, does, after, accepts, given, lineAt, partIn, Relays, Goes}
 use Rattle.promise.specs.Ends.{sendsOf, receivesOf}
 
 -- the record of the line, from its opening on; before that it is none of this line's
 abbrev pub lineIn : Gateway → ℕ → Past → Line
 lineIn g i p = pick (p .opened) (lineAt g i) closedLine
 
--- what the gateway holds of a channel for sending, and what it has stored of it, with full numbers: read from its record and its store
+-- what the gateway holds of a channel for sending, and what it has stored of it, with full numbers: read from its record and its part of the store
 abbrev pub sendsBy : Gateway → ℕ → Past → ℕ → Sends
-sendsBy g i p channel = sendsOf (g .store) i (lineIn g i p) channel
+sendsBy g i p channel = sendsOf (partIn g i) (lineIn g i p) channel
 
 abbrev pub receivesBy : Gateway → ℕ → Past → ℕ → Receives
-receivesBy g i p channel = receivesOf (g .store) i (lineIn g i p) channel
+receivesBy g i p channel = receivesOf (partIn g i) (lineIn g i p) channel
 
 -- One way of a channel, from g to h.
 pub record Carried (channel : ℕ) (g : Gateway) (i : ℕ) (p : Past) (h : Gateway) (j : ℕ) (q : Past) : Type 0 where

@@ -10,7 +10,7 @@ use Rattle.flow.specs.Flow.{Message, Sends}
 use Rattle.relay.specs.RelayTests.{reliable}
 use Rattle.calls.specs.Call as call
 use Rattle.promise.specs.Build.{Build}
-use Rattle.promise.specs.Run.{Gateway, does, lineAt, Relays}
+use Rattle.promise.specs.Run.{Gateway, does, lineAt, partIn, Relays}
 use Rattle.promise.specs.Ends.{sendsOf}
 use Rattle.promise.specs.Demand2.{Ready}
 
@@ -30,4 +30,4 @@ heldOf s = heldFrom s (s .S - s .h)
 
 pub record Reports (b : Build) : Type 0 where
   pub exact : (g : Gateway) (i : ℕ) → Ready g i → Relays g i → (channel : ℕ) → reliable channel ≡ true → (out : List ℕ)
-      → does (b .does) g (call.report i channel) out .answer ≡ accepted (heldOf (sendsOf (g .store) i (lineAt g i) channel) ∷ [])
+      → does (b .does) g (call.report i channel) out .answer ≡ accepted (heldOf (sendsOf (partIn g i) (lineAt g i) channel) ∷ [])

@@ -14,6 +14,7 @@ use Rattle.line.specs.declared.Line.{Line}
 use Rattle.line.specs.declared.Settings.{Settings}
 use Rattle.writing.specs.Send.{ranked, heldIn}
 use Rattle.book.specs.Book.{freshBook, lineOf}
+use Rattle.book.specs.Parts.{storeLength, partOf}
 use Rattle.book.specs.declared.Book.{Book}
 use Rattle.calls.specs.Call.{Call}
 use Rattle.calls.specs.Call as call
@@ -37,6 +38,10 @@ given d = take (getD (d .answer .values) 0 0) (d .out)
 
 abbrev pub lineAt : Gateway → ℕ → Line
 lineAt g i = lineOf (g .book) i
+
+-- line i's part of the store
+abbrev pub partIn : Gateway → ℕ → List ℕ
+partIn g i = partOf (g .book) i (g .store)
 
 -- the line is in modem relay
 abbrev pub Relays : Gateway → ℕ → Type 0
@@ -140,10 +145,10 @@ module _ (f : Does) where
     here : {g′ g″ h′ : Gateway} {p′ p″ q′ : Past} → Goes i j identifier kind g p h q g′ p′ h′ q′ → Step i identifier kind q′ g′ p′ g″ p″ → Goes i j identifier kind g p h q g″ p″ h′ q′
     there : {g′ h′ h″ : Gateway} {p′ q′ q″ : Past} → Goes i j identifier kind g p h q g′ p′ h′ q′ → Step j identifier kind p′ h′ q′ h″ q″ → Goes i j identifier kind g p h q g′ p′ h″ q″
 
-  -- "Take two fresh gateways": what comes of them and of the line. Lines are 0 to 3; a store has at least 42,240 octets, whatever they are.
+  -- "Take two fresh gateways": what comes of them and of the line. Lines are 0 to 3; a store has at least 42,240 octets (`storeLength`), whatever they are.
   pub record Run (i j identifier kind : ℕ) (g : Gateway) (p : Past) (h : Gateway) (q : Past) : Type 0 where
     pub store1 : List ℕ
     pub store2 : List ℕ
     pub lines : (i < 4) × (j < 4)
-    pub long : (42240 ≤ length store1) × (42240 ≤ length store2)
+    pub long : (storeLength freshBook ≤ length store1) × (storeLength freshBook ≤ length store2)
     pub goes : Goes i j identifier kind (freshWith store1) nothingYet (freshWith store2) nothingYet g p h q

@@ -1,5 +1,6 @@
 -- The round goes on: the message arrives and the test lets it pass, it is handed out, and base news goes back; so one message after the other passes.
 -- Assumes nothing.
+use Rattle.book.specs.Parts.{partStart}
 use Prim.Native.Nat.{ℕ, suc, _%_, _≤_, _<_}
 use mathlib.Core.Path.{_≡_, refl, sym, ap, subst, _∙_}
 use mathlib.Core.Bool.{Bool, true, false}
@@ -19,7 +20,7 @@ use Rattle.channel.specs.Distance.{dist}
 use Rattle.sending.specs.Sending.{heardBase, ackedBy, underWay}
 use Rattle.sending.specs.declared.Sending.{Sending}
 use Rattle.flow.specs.Flow.{Full}
-use Rattle.line.specs.Line.{receivingOf, withSides}
+use Rattle.line.specs.Line.{receivingOf}
 use Rattle.line.specs.declared.Line.{Line}
 use Rattle.writing.specs.Write.{baseFor, headFor}
 use Rattle.arriving.specs.Effect.{heardLine, ackedLine, ackedAll}
@@ -54,7 +55,7 @@ one-acked l word = go (eqb (channelOf word) 1)
     acked : Bool → Sending
     acked t = ackedBy (pick t (l .sending1) (l .sending2)) (numberOf word)
 
-    go : (t : Bool) → pick t (withSides l (acked t) (l .sending2) (l .receiving1) (l .receiving2)) (withSides l (l .sending1) (acked t) (l .receiving1) (l .receiving2)) .sending1 .base ≡ l .sending1 .base
+    go : (t : Bool) → pick {A = Sending} t (acked t) (l .sending1) .base ≡ l .sending1 .base
     go true = acked-base (l .sending1) (numberOf word)
     go false = refl
 
@@ -211,7 +212,7 @@ module _ {test : ℕ → ℕ → Bool} {k : ℕ} (less : k < 16384) (a : At test
       (heard (news .octets) news (hears .0) (t₅ .yours .1) honest₃)
 
   base₃ : lineAt g₃ 0 .sending1 .base ≡ suc k
-  unfolding effect baseFor
+  unfolding effect partStart baseFor
   base₃ =
       let b : headAt (news .octets) .base ≡ suc k % modulus = ap (λ (x : Head). x .base) head ∙ ap (λ (n : ℕ). n % modulus) (next-is (turned t₄) ∙ handed₂) in
       ap (λ (l : Line). l .sending1 .base) (line-left (run-kept (turned t₅ .ours) .mine) back [] (hears .0) (call-passes (g₂ few a) back [] (hears .1 .accepted)))

@@ -1,6 +1,9 @@
 -- Refusing everything fails both demands, and a constant body fails demand 2.
 -- Assumes nothing.
-use Prim.Native.Nat.{ℕ}
+use Rattle.book.specs.Book.{freshBook}
+use Rattle.book.specs.Parts.{storeOctets}
+use Rattle.book.proofs.Parts.{store-length}
+use Prim.Native.Nat.{ℕ, _≤_}
 use mathlib.Core.Bool.{true, false}
 use mathlib.Core.Path.{_≡_, refl, sym, ap, _∙_}
 use mathlib.Core.List.{List, [], _∷_}
@@ -38,7 +41,8 @@ refuser-fails r d = let n = d .break-back (from 0) two refl .written in omega (a
 -- nor does it open a line
 pub refuser-opens-nothing : (r : Refusal) → Demand3 (refuser r) → ⊥
 refuser-opens-nothing r d =
-    let e = d .begins (replicate 42240 0) (lit≤ tt) 0 (lit< tt) (record { identifier = 5; kind = 98; vbd = true; relay = true }) refl refl 0 0 (lit≤ tt) [] .accepted in
+    let long : storeOctets ≤ length {A = ℕ} (replicate storeOctets 0) = lit≤ tt in
+    let e = d .begins (replicate storeOctets 0) (omega (arith, long, store-length freshBook)) 0 (lit< tt) (record { identifier = 5; kind = 98; vbd = true; relay = true }) refl refl 0 0 (lit≤ tt) [] .accepted in
     let n : numberOf r ≡ 0 = eqb-true _ _ e in
     omega (arith, n, number-some r)
 

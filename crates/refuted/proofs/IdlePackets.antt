@@ -27,7 +27,8 @@ use Rattle.line.specs.Line.{isOpen}
 use Rattle.line.specs.Fit.{lineFits}
 use Rattle.line.specs.Mode.{steppedTo}
 use Rattle.line.specs.declared.Settings.{Settings}
-use Rattle.store.specs.Store.{regionOf}
+use Rattle.book.specs.Parts.{partStart, storeLength, storeOctets}
+use Rattle.book.proofs.Parts.{store-length}
 use Rattle.book.specs.Resting.{allSpan}
 use Rattle.book.specs.Book.{freshBook, openIn, linesFit, bookFits}
 use Rattle.calls.specs.Call.{Call}
@@ -44,7 +45,7 @@ use Rattle.refuted.specs.Idle.{constantPacket, madeUp}
 
 -- a store of 42,240 octets, and a line with an identifier
 abbrev pub zeros : List ℕ
-zeros = replicate 42240 0
+zeros = replicate storeOctets 0
 
 abbrev pub named : ℕ → Settings
 named identifier = record { identifier = identifier; kind = 98; vbd = true; relay = true }
@@ -53,8 +54,12 @@ named identifier = record { identifier = identifier; kind = 98; vbd = true; rela
 abbrev called : List Turn → Gateway
 called ts = let t = reach freshBook zeros ts in record { book = t .book; store = t .store }
 
-ready : (ts : List Turn) → isOpen (lineAt (called ts) 0) ≡ true → 42240 ≤ length (called ts .store) → Ready (called ts) 0
-ready ts e l = let k = reached-passes ts zeros in record { fits = k .0; shaped = k .1; long = l; small = lit< tt; opened = e }
+-- it is long enough
+pub zeros-long : storeLength freshBook ≤ length zeros
+zeros-long = let e : storeOctets ≤ length zeros = lit≤ tt in omega (arith, store-length freshBook)
+
+ready : (ts : List Turn) → isOpen (lineAt (called ts) 0) ≡ true → storeOctets ≤ length (called ts .store) → Ready (called ts) 0
+ready ts e l = let k = reached-passes ts zeros in record { fits = k .0; shaped = k .1; long = omega (arith, store-length (called ts .book)); small = lit< tt; opened = e }
 
 abbrev turn : Call → Turn
 turn c = record { call = c; out = [] }
@@ -68,7 +73,7 @@ there identifier = called (turns identifier)
 
 -- the packets of two lines do not say the same: no build gives one packet s wherever it writes one
 pub constant-packets-fail : (b : Build) (s : List ℕ) → ((g : Gateway) (out : List ℕ) → accepts (does (b .does) g (call.empty 0 0) out) ≡ true → given (does (b .does) g (call.empty 0 0) out) ≡ s) → Demand2 b → ⊥
-unfolding reach resultOf acceptedResult effect order lineFor openOrder askOrder bookFits linesFit allSpan openIn lineFits member noTwice allSpans owedFits modesFit sendingFits receivingFits maskOf setOf sizes.sizesFit every askStep moved timed channelsFor steppedTo
+unfolding reach resultOf acceptedResult effect partStart order lineFor openOrder askOrder bookFits linesFit allSpan openIn lineFits member noTwice allSpans owedFits modesFit sendingFits receivingFits maskOf setOf sizes.sizesFit every askStep moved timed channelsFor steppedTo
 constant-packets-fail b s same d =
     let one = d .empty-back (there 5) 0 (ready (turns 5) refl (lit≤ tt)) refl 0 (lit≤ tt) (replicate 12 0) (lit≤ tt) in
     let other = d .empty-back (there 6) 0 (ready (turns 6) refl (lit≤ tt)) refl 0 (lit≤ tt) (replicate 12 0) (lit≤ tt) in
@@ -80,7 +85,7 @@ constant-packet-fails s = constant-packets-fail (constantPacket s) s (λ g out e
 
 -- of no message and of one the report says not the same
 pub made-up-fails : (n : ℕ) → Reports (madeUp n) → ⊥
-unfolding reach resultOf acceptedResult effect order lineFor openOrder askOrder bookFits linesFit allSpan openIn lineFits member noTwice allSpans owedFits modesFit sendingFits receivingFits maskOf setOf sizes.sizesFit every askStep moved timed channelsFor steppedTo takeOrder tookOne regionOf heldFrom
+unfolding reach resultOf acceptedResult effect order lineFor openOrder askOrder bookFits linesFit allSpan openIn lineFits member noTwice allSpans owedFits modesFit sendingFits receivingFits maskOf setOf sizes.sizesFit every askStep moved timed channelsFor steppedTo takeOrder tookOne partStart heldFrom
 made-up-fails n d =
     let ts : List Turn = turn (call.opening 0 (named 5) 0) ∷ turn (call.mode 0 (ask modem 0)) ∷ turn (call.taking 0 1 (7 ∷ [])) ∷ [] in
     let none = d .exact (there 5) 0 (ready (turns 5) refl (lit≤ tt)) refl 1 refl [] in

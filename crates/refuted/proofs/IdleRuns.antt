@@ -1,5 +1,7 @@
 -- The idle builds that store nothing or hold nothing do not meet demand 3: a small run of each, computed, shows it.
 -- Assumes nothing.
+use Rattle.line.specs.Line.{closedLine}
+use Rattle.writing.specs.Send.{longestPacket}
 use Prim.Native.Nat.{ℕ, zero, suc}
 use mathlib.Core.Path.{_≡_, refl, ap}
 use mathlib.Core.List.{List, [], _∷_, List·Memᴰ·head}
@@ -25,7 +27,7 @@ use Rattle.mode.specs.Request.{askStep}
 use Rattle.mode.specs.Acts.{ask}
 use Rattle.line.specs.Fit.{lineFits}
 use Rattle.line.specs.Mode.{steppedTo}
-use Rattle.store.specs.Store.{regionOf}
+use Rattle.book.specs.Parts.{partStart}
 use Rattle.writing.specs.Write.{acksFor, wroteLine, baseFor}
 use Rattle.writing.specs.Send.{heldPacket}
 use Rattle.book.specs.Resting.{allSpan}
@@ -41,7 +43,7 @@ use Rattle.promise.specs.Promise.{AllCame, HandsOut}
 use Rattle.promise.specs.Promise as promise
 use Rattle.promise.specs.Demand3.{Demand3}
 use Rattle.refuted.specs.Idle.{Arrives, instead, arriving, lets, forgets, holdsNothing, loses, storesNothing}
-use Rattle.refuted.proofs.IdlePackets.{zeros, named}
+use Rattle.refuted.proofs.IdlePackets.{zeros, zeros-long, named}
 
 abbrev opening : Call
 opening = call.opening 0 (named 5) 0
@@ -61,7 +63,7 @@ module _ (w t : Does) (a : Arrives) where
   inside = after f (after f fresh opening []) asks []
 
   pub begun : Goes f 0 0 5 98 fresh nothingYet fresh nothingYet inside justOpened inside justOpened
-  unfolding resultOf acceptedResult effect order lineFor openOrder askOrder bookFits linesFit allSpan openIn lineFits member noTwice allSpans owedFits modesFit sendingFits receivingFits maskOf setOf sizes.sizesFit every askStep moved timed channelsFor steppedTo
+  unfolding resultOf acceptedResult effect partStart order lineFor openOrder askOrder bookFits linesFit allSpan openIn lineFits member noTwice allSpans owedFits modesFit sendingFits receivingFits maskOf setOf sizes.sizesFit every askStep moved timed channelsFor steppedTo
   begun =
       there (here (there (here stay
       (opens refl (named 5) 0 [] refl refl refl))
@@ -71,11 +73,11 @@ module _ (w t : Does) (a : Arrives) where
 
 -- a run of two from line 0 to line 0
 abbrev pub run : (f : Does) {g h : Gateway} {p q : Past} → Goes f 0 0 5 98 fresh nothingYet fresh nothingYet g p h q → Run f 0 0 5 98 g p h q
-run f w = record { store1 = zeros; store2 = zeros; lines = (lit< tt, lit< tt); long = (lit≤ tt, lit≤ tt); goes = w }
+run f w = record { store1 = zeros; store2 = zeros; lines = (lit< tt, lit< tt); long = (zeros-long, zeros-long); goes = w }
 
 -- a message that is taken is counted
 pub holds-nothing-fails : Demand3 holdsNothing → ⊥
-unfolding resultOf acceptedResult effect order lineFor openOrder askOrder bookFits linesFit allSpan openIn lineFits member noTwice allSpans owedFits modesFit sendingFits receivingFits maskOf setOf sizes.sizesFit every askStep moved timed channelsFor steppedTo takeOrder
+unfolding resultOf acceptedResult effect partStart order lineFor openOrder askOrder bookFits linesFit allSpan openIn lineFits member noTwice allSpans owedFits modesFit sendingFits receivingFits maskOf setOf sizes.sizesFit every askStep moved timed channelsFor steppedTo takeOrder
 holds-nothing-fails d =
     let w = here (begun resultOf forgets lets) (calls refl (call.taking 0 1 (7 ∷ [])) [] refl (λ _. refl) (took 1 (7 ∷ []) refl)) in
     let n : _≡_ {A = ℕ} 1 0 = d .promised (run (instead resultOf forgets lets resultOf) w) .there 1 refl .counted in
@@ -93,7 +95,7 @@ module _ (a : Arrives) where
   take x = call.taking 0 1 (x ∷ [])
 
   abbrev space : List ℕ
-  space = replicate 144 0
+  space = replicate (longestPacket closedLine) 0
 
   abbrev holds : Gateway
   holds = after g start (take 7) []
@@ -108,7 +110,7 @@ module _ (a : Arrives) where
   sender = after g holds (call.sending 0 1 0) space
 
   one-sent : Goes g 0 0 5 98 fresh nothingYet fresh nothingYet sender (wrotePast past packet) start justOpened
-  unfolding resultOf acceptedResult effect order lineFor openOrder askOrder bookFits linesFit allSpan openIn lineFits member noTwice allSpans owedFits modesFit sendingFits receivingFits maskOf setOf sizes.sizesFit every askStep moved timed channelsFor steppedTo takeOrder tookOne regionOf sendOrder heldPacket heldOf rankOf lowest setBelow acksFor firstThree baseFor wroteLine packetOctets withoutThree
+  unfolding resultOf acceptedResult effect order lineFor openOrder askOrder bookFits linesFit allSpan openIn lineFits member noTwice allSpans owedFits modesFit sendingFits receivingFits maskOf setOf sizes.sizesFit every askStep moved timed channelsFor steppedTo takeOrder tookOne partStart sendOrder heldPacket heldOf rankOf lowest setBelow acksFor firstThree baseFor wroteLine packetOctets withoutThree
   one-sent =
       here (here (begun resultOf resultOf a)
       (calls refl (take 7) [] refl (λ _. refl) (took 1 (7 ∷ []) refl)))
@@ -116,12 +118,12 @@ module _ (a : Arrives) where
 
   -- the packet is such as the premise speaks of
   honest : Honest justOpened (wrotePast past packet) (packet .octets) packet
-  unfolding resultOf acceptedResult effect order lineFor openOrder askOrder bookFits linesFit allSpan openIn lineFits member noTwice allSpans owedFits modesFit sendingFits receivingFits maskOf setOf sizes.sizesFit every askStep moved timed channelsFor steppedTo takeOrder tookOne heldOf rankOf lowest setBelow
+  unfolding resultOf acceptedResult effect partStart order lineFor openOrder askOrder bookFits linesFit allSpan openIn lineFits member noTwice allSpans owedFits modesFit sendingFits receivingFits maskOf setOf sizes.sizesFit every askStep moved timed channelsFor steppedTo takeOrder tookOne heldOf rankOf lowest setBelow
   honest = record { written = List·Memᴰ·head refl; same = refl; carries = also (lit< tt) none; names = also (lit< tt) none; acks = none }
 
 -- it came, and nothing can be handed out
 pub stores-nothing-fails : Demand3 storesNothing → ⊥
-unfolding resultOf acceptedResult effect order lineFor openOrder askOrder bookFits linesFit allSpan openIn lineFits member noTwice allSpans owedFits modesFit sendingFits receivingFits maskOf setOf sizes.sizesFit every askStep moved timed channelsFor steppedTo takeOrder tookOne regionOf sendOrder heldPacket heldOf rankOf lowest setBelow acksFor firstThree baseFor wroteLine packetOctets withoutThree arriveOrder ownerFrom headAt numberAt baseAt acksAt ackAt acksServed payloadOf reading.sizeFits bitsAt handOutOrder
+unfolding resultOf acceptedResult effect order lineFor openOrder askOrder bookFits linesFit allSpan openIn lineFits member noTwice allSpans owedFits modesFit sendingFits receivingFits maskOf setOf sizes.sizesFit every askStep moved timed channelsFor steppedTo takeOrder tookOne partStart sendOrder heldPacket heldOf rankOf lowest setBelow acksFor firstThree baseFor wroteLine packetOctets withoutThree arriveOrder ownerFrom headAt numberAt baseAt acksAt ackAt acksServed payloadOf reading.sizeFits bitsAt handOutOrder
 stores-nothing-fails d =
     let k = packet loses in
     let w = there (one-sent loses) (calls refl (call.arrival (k .octets)) [] refl (λ _. refl) (heard (k .octets) k refl refl (honest loses))) in
@@ -132,7 +134,7 @@ stores-nothing-fails d =
     came zero low high full = List·Memᴰ·head refl
     came (suc n) low high full = absurd (omega arith)
 
-    none-out : {h′ : Gateway} {q′ : Past} → HandsOut (arriving loses) 0 1 (λ n. replicate 144 0) (start loses) (heardPast justOpened (packet loses)) h′ q′
+    none-out : {h′ : Gateway} {q′ : Past} → HandsOut (arriving loses) 0 1 (λ n. replicate (longestPacket closedLine) 0) (start loses) (heardPast justOpened (packet loses)) h′ q′
         → q′ .handed 1 ≡ (7 ∷ []) ∷ [] → ⊥
     none-out promise.done e = let n : _≡_ {A = ℕ} 0 1 = ap length e in omega (arith, n)
     none-out (promise.next t more) e = clash t

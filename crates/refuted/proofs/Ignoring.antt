@@ -1,6 +1,7 @@
 -- A build that ignores messages by a test does not meet demand 3: the first one that the test does not let pass has come, and cannot be handed out.
 -- By size that is message 16,384, whose number is 0 and seems old; where only the first message is served, it is the second.
 -- Assumes nothing.
+use Rattle.book.specs.Parts.{partStart}
 use Prim.Native.Nat.{ℕ, zero, suc, _%_, _≤_, _<_}
 use mathlib.Core.Path.{_≡_, refl, sym, ap, subst, _∙_}
 use mathlib.Core.Bool.{Bool, true, false}
@@ -15,7 +16,7 @@ use Rattle.ground.specs.Pick.{pick}
 use Rattle.ground.proofs.Verdicts.{passed}
 use Rattle.places.specs.Places.{maskOf, setOf, bitOf}
 use Rattle.packet.specs.Read.{headAt}
-use Rattle.channel.specs.Channel.{windowOf}
+use Rattle.channel.specs.Channel.{largest, windowOf}
 use Rattle.sending.specs.Sending.{sendingFits}
 use Rattle.receiving.specs.Receiving.{receivingFits}
 use Rattle.channel.specs.Sizes as sizes
@@ -30,7 +31,7 @@ use Rattle.mode.specs.Given.{modem}
 use Rattle.mode.specs.Moved.{channelsFor, timed, moved}
 use Rattle.mode.specs.Request.{askStep}
 use Rattle.mode.specs.Acts.{ask}
-use Rattle.line.specs.Fit.{largest, lineFits}
+use Rattle.line.specs.Fit.{lineFits}
 use Rattle.line.specs.Line.{isOpen, closedLine}
 use Rattle.line.specs.Mode.{steppedTo}
 use Rattle.line.specs.declared.Line.{Line}
@@ -46,7 +47,8 @@ use Rattle.calls.specs.Call as call
 use Rattle.calls.specs.Order.{openOrder, askOrder, order, lineFor}
 use Rattle.calls.specs.Result.{CallResult, resultOf, acceptedResult, effect}
 use Rattle.promise.specs.Past.{Past, nothingYet, justOpened, heardPast}
-use Rattle.promise.specs.Run.{Gateway, does, after, lineAt, rankedMark, moded, heard, opens, calls, Step, Goes, stay, here, there, Run}
+use Rattle.promise.proofs.Phases.{part-there}
+use Rattle.promise.specs.Run.{Gateway, does, after, lineAt, partIn, rankedMark, moded, heard, opens, calls, Step, Goes, stay, here, there, Run}
 use Rattle.promise.specs.Promise.{receivesBy, AllCame, HandsOut}
 use Rattle.promise.specs.Promise as promise
 use Rattle.promise.specs.Ends.{slotsOf, receivesOf}
@@ -68,7 +70,7 @@ use Rattle.refuted.proofs.Answered.{round}
 
 -- the two begin, in a run of ours and of this build alike
 start : (test : ℕ → ℕ → Bool) → At test 0
-unfolding resultOf acceptedResult effect order lineFor openOrder askOrder bookFits linesFit allSpan openIn lineFits member noTwice allSpans owedFits modesFit sendingFits receivingFits maskOf setOf sizes.sizesFit every askStep moved timed channelsFor steppedTo
+unfolding resultOf acceptedResult effect partStart order lineFor openOrder askOrder bookFits linesFit allSpan openIn lineFits member noTwice allSpans owedFits modesFit sendingFits receivingFits maskOf setOf sizes.sizesFit every askStep moved timed channelsFor steppedTo
 start test =
     let opening : Call = call.opening 0 (named 5) 0 in
     let asks : Call = call.mode 0 (ask modem 0) in
@@ -156,13 +158,13 @@ module _ {test : ℕ → ℕ → Bool} {k : ℕ} (few : k ≤ 16384) (a : At tes
   not-stored bit =
       let k = ready yours in
       let sides : Sides (lineAt h 0) = relay-sides (lineAt h 0) (line-fits (h .book) (k .fits) 0) (k .opened) (yours .mine .1) in
-      let slots = slotsOf (h .store) 0 way.Receiving 1 in
+      let slots = slotsOf (lineAt h 0) (partIn h 0) way.Receiving 1 in
       let full = message-full (windowOf 1) slots (r .sizes) (maskOf (r .stored)) (r .origin) largest (gets-ok sides 1 .placed) (receiving-sized (windowOf 1) largest r (sides .receiving 1))
-      (slots-hold (h .store) (k .long) 0 (lit< tt) way.Receiving 1 refl) 0 (lit< tt) bit in
-      let there : Full (receivesOf (h .store) 0 (lineAt h 0) 1 .stored (r .next))
+      (slots-hold (lineAt h 0) (partIn h 0) (part-there h 0 (k .long) (lit< tt)) way.Receiving 1 refl) 0 (lit< tt) bit in
+      let there : Full (receivesOf (partIn h 0) (lineAt h 0) 1 .stored (r .next))
       = subst (λ (n : ℕ). Full (messageOf (windowOf 1) slots (r .sizes) (maskOf (r .stored)) (r .origin) n)) (sym (sub-self (r .next))) full in
       let seen : Full (receivesBy h 0 (a .q) 1 .stored (receivesBy h 0 (a .q) 1 .R))
-      = subst (λ (o : Bool). Full (receivesOf (h .store) 0 (pick o (lineAt h 0) closedLine) 1 .stored (receivesOf (h .store) 0 (pick o (lineAt h 0) closedLine) 1 .R))) (sym (yours .mine .0)) there in
+      = subst (λ (o : Bool). Full (receivesOf (partIn h 0) (pick o (lineAt h 0) closedLine) 1 .stored (receivesOf (partIn h 0) (pick o (lineAt h 0) closedLine) 1 .R))) (sym (yours .mine .0)) there in
       let below = run-kept (a .twin .ours) .joined .there 1 refl .keeps (receivesBy h 0 (a .q) 1 .R) (omega arith) seen .0 in
       omega (arith, below, R-is (a .twin), S-is (a .twin), a .taken, a .handed)
 

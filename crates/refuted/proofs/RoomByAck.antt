@@ -1,5 +1,7 @@
 -- The build that frees send room on acknowledgement alone does not meet demand 3: the far store overruns, and a message is lost.
 -- Assumes nothing.
+use Rattle.line.specs.Line.{closedLine}
+use Rattle.writing.specs.Send.{longestPacket}
 use Prim.Native.Nat.{ℕ}
 use mathlib.Core.Path.{_≡_, refl, ap}
 use mathlib.Core.List.{List, [], _∷_, List·Memᴰ·head}
@@ -23,7 +25,7 @@ use Rattle.mode.specs.Moved.{channelsFor, timed, moved}
 use Rattle.mode.specs.Request.{askStep}
 use Rattle.line.specs.Fit.{lineFits}
 use Rattle.line.specs.Mode.{steppedTo}
-use Rattle.store.specs.Store.{regionOf}
+use Rattle.book.specs.Parts.{partStart}
 use Rattle.writing.specs.Write.{acksFor, wroteLine, baseFor}
 use Rattle.writing.specs.Write as writes
 use Rattle.writing.specs.Send.{heldPacket}
@@ -54,7 +56,7 @@ abbrev taking : ℕ → Call
 taking x = call.taking 0 2 (x ∷ [])
 
 abbrev space : List ℕ
-space = replicate 144 0
+space = replicate (longestPacket closedLine) 0
 
 abbrev nothing : List ℕ
 nothing = []
@@ -79,7 +81,7 @@ abbrev fullPast : Past
 fullPast = tells justOpened eight
 
 taken : Goes f 0 0 5 98 fresh nothingYet fresh nothingYet full fullPast start justOpened
-unfolding resultOf acceptedResult effect order lineFor openOrder askOrder bookFits linesFit allSpan openIn lineFits member noTwice allSpans owedFits modesFit sendingFits receivingFits maskOf setOf sizes.sizesFit every askStep moved timed channelsFor steppedTo takeOrder tookOne regionOf
+unfolding resultOf acceptedResult effect order lineFor openOrder askOrder bookFits linesFit allSpan openIn lineFits member noTwice allSpans owedFits modesFit sendingFits receivingFits maskOf setOf sizes.sizesFit every askStep moved timed channelsFor steppedTo takeOrder tookOne partStart
 taken =
     here (here (here (here (here (here (here (here (begun resultOf resultOf frees)
     (calls refl (taking 1) [] refl (λ _. refl) (took 2 (1 ∷ []) refl)))
@@ -117,7 +119,7 @@ abbrev freerPast : Past
 freerPast = heardPast (wrotePast fullPast one) ack
 
 acked : Goes f 0 0 5 98 fresh nothingYet fresh nothingYet freer freerPast answered answeredPast
-unfolding resultOf acceptedResult effect order lineFor openOrder askOrder bookFits linesFit allSpan openIn lineFits member noTwice allSpans owedFits modesFit sendingFits receivingFits maskOf setOf sizes.sizesFit every askStep moved timed channelsFor steppedTo takeOrder tookOne regionOf sendOrder heldPacket heldOf rankOf lowest setBelow acksFor firstThree baseFor wroteLine packetOctets withoutThree arriveOrder ownerFrom headAt numberAt baseAt acksAt ackAt acksServed payloadOf reading.sizeFits bitsAt arrivedLine newsLine heardLine heardBase ackedAll ackedLine ackedBy storedLine arrivalOf storedAt entered enters arrivedStore storedStore emptyOrder writes.emptyPacket marks.there marks.renewed marks.enter marks.enterAll
+unfolding resultOf acceptedResult effect order lineFor openOrder askOrder bookFits linesFit allSpan openIn lineFits member noTwice allSpans owedFits modesFit sendingFits receivingFits maskOf setOf sizes.sizesFit every askStep moved timed channelsFor steppedTo takeOrder tookOne partStart sendOrder heldPacket heldOf rankOf lowest setBelow acksFor firstThree baseFor wroteLine packetOctets withoutThree arriveOrder ownerFrom headAt numberAt baseAt acksAt ackAt acksServed payloadOf reading.sizeFits bitsAt arrivedLine newsLine heardLine heardBase ackedAll ackedLine ackedBy storedLine arrivalOf storedAt entered enters arrivedStore storedStore emptyOrder writes.emptyPacket marks.there marks.renewed marks.enter marks.enterAll
 acked =
     here (there (there (here taken
     (calls refl (call.sending 0 2 0) space refl (λ _. refl) (sent 2 0 refl)))
@@ -160,7 +162,7 @@ abbrev droppedPast : Past
 droppedPast = heardPast (wrotePast overPast ninth) late
 
 overrun : Goes f 0 0 5 98 fresh nothingYet fresh nothingYet dropped droppedPast told toldPast
-unfolding resultOf acceptedResult effect order lineFor openOrder askOrder bookFits linesFit allSpan openIn lineFits member noTwice allSpans owedFits modesFit sendingFits receivingFits maskOf setOf sizes.sizesFit every askStep moved timed channelsFor steppedTo takeOrder tookOne regionOf sendOrder heldPacket heldOf rankOf lowest setBelow acksFor firstThree baseFor wroteLine packetOctets withoutThree arriveOrder ownerFrom headAt numberAt baseAt acksAt ackAt acksServed payloadOf reading.sizeFits bitsAt arrivedLine newsLine heardLine heardBase ackedAll ackedLine ackedBy storedLine arrivalOf storedAt entered enters arrivedStore storedStore emptyOrder writes.emptyPacket marks.there marks.renewed marks.enter marks.enterAll
+unfolding resultOf acceptedResult effect order lineFor openOrder askOrder bookFits linesFit allSpan openIn lineFits member noTwice allSpans owedFits modesFit sendingFits receivingFits maskOf setOf sizes.sizesFit every askStep moved timed channelsFor steppedTo takeOrder tookOne partStart sendOrder heldPacket heldOf rankOf lowest setBelow acksFor firstThree baseFor wroteLine packetOctets withoutThree arriveOrder ownerFrom headAt numberAt baseAt acksAt ackAt acksServed payloadOf reading.sizeFits bitsAt arrivedLine newsLine heardLine heardBase ackedAll ackedLine ackedBy storedLine arrivalOf storedAt entered enters arrivedStore storedStore emptyOrder writes.emptyPacket marks.there marks.renewed marks.enter marks.enterAll
 overrun =
     here (there (there (here (here acked
     (calls refl (taking 9) [] refl (λ _. refl) (took 2 (9 ∷ []) refl)))
@@ -173,7 +175,7 @@ overrun =
 
 -- then it is held at neither end
 pub frees-on-ack-fails : Demand3 freesOnAck → ⊥
-unfolding resultOf acceptedResult effect order lineFor openOrder askOrder bookFits linesFit allSpan openIn lineFits member noTwice allSpans owedFits modesFit sendingFits receivingFits maskOf setOf sizes.sizesFit every askStep moved timed channelsFor steppedTo takeOrder tookOne regionOf sendOrder heldPacket heldOf rankOf lowest setBelow acksFor firstThree baseFor wroteLine packetOctets withoutThree arriveOrder ownerFrom headAt numberAt baseAt acksAt ackAt acksServed payloadOf reading.sizeFits bitsAt arrivedLine newsLine heardLine heardBase ackedAll ackedLine ackedBy storedLine arrivalOf storedAt entered enters arrivedStore storedStore emptyOrder writes.emptyPacket marks.there marks.renewed marks.enter marks.enterAll
+unfolding resultOf acceptedResult effect order lineFor openOrder askOrder bookFits linesFit allSpan openIn lineFits member noTwice allSpans owedFits modesFit sendingFits receivingFits maskOf setOf sizes.sizesFit every askStep moved timed channelsFor steppedTo takeOrder tookOne partStart sendOrder heldPacket heldOf rankOf lowest setBelow acksFor firstThree baseFor wroteLine packetOctets withoutThree arriveOrder ownerFrom headAt numberAt baseAt acksAt ackAt acksServed payloadOf reading.sizeFits bitsAt arrivedLine newsLine heardLine heardBase ackedAll ackedLine ackedBy storedLine arrivalOf storedAt entered enters arrivedStore storedStore emptyOrder writes.emptyPacket marks.there marks.renewed marks.enter marks.enterAll
 frees-on-ack-fails d = ⊎-elim (λ e. gone e) (λ e. gone e) (d .promised (run f overrun) .there 2 refl .held 8 (lit≤ tt) (lit< tt) .1)
   where
     gone : _≡_ {A = List ℕ} [] (9 ∷ []) → ⊥

@@ -1,6 +1,9 @@
 -- A message of channel 1 after the other is taken, sent, handed out and answered with base news, as long as the test of a build that ignores
 -- messages by it lets them pass: so far it does what ours does.
 -- Assumes nothing.
+use Rattle.book.specs.Parts.{partStart}
+use Rattle.line.specs.Line.{closedLine}
+use Rattle.writing.specs.Send.{longestPacket}
 use Prim.Native.Nat.{ℕ, suc, _%_, _≤_, _<_}
 use mathlib.Core.Path.{_≡_, refl, sym, ap, subst, _∙_}
 use mathlib.Core.Bool.{Bool}
@@ -35,7 +38,7 @@ use Rattle.promise.proofs.Demand3.{promised, report-counts}
 use Rattle.refuted.proofs.Twins.{Twin, turned, served, alike, ready, S-is, h-is, R-is, next-is}
 
 abbrev pub space : List ℕ
-space = replicate 144 0
+space = replicate (longestPacket closedLine) 0
 
 abbrev pub message : Message
 message = 7 ∷ []
@@ -79,7 +82,7 @@ module _ {test : ℕ → ℕ → Bool} {k : ℕ} (few : k ≤ 16384) (a : At tes
   taken₁ = omega (arith, length-append (a .p .taken 1) (message ∷ []), a .taken)
 
   base₁ : lineAt g₁ 0 .sending1 .base ≡ k
-  unfolding lineFor effect tookOne
+  unfolding lineFor effect partStart tookOne
   base₁ = ap (λ (l : Line). l .sending1 .base) (line-left (run-kept (t .ours) .mine) taking [] refl (call-passes (a .g) taking [] (takes .accepted))) ∙ a .base
 
   -- it is held, as it has not come yet
@@ -114,7 +117,7 @@ module _ {test : ℕ → ℕ → Bool} {k : ℕ} (few : k ≤ 16384) (a : At tes
   t₂ = alike t₁ sending space (t .mine .0) sends refl (sent 1 (ranked .0) (sends .accepted)) (sent 1 (ranked .0) (sends .accepted))
 
   pub base₂ : lineAt g₂ 0 .sending1 .base ≡ k
-  unfolding lineFor effect wroteLine
+  unfolding lineFor effect partStart wroteLine
   base₂ = ap (λ (l : Line). l .sending1 .base) (line-left (run-kept (t₁ .ours) .mine) sending space refl (call-passes g₁ sending space (sends .accepted))) ∙ base₁
 
   pub number : rankedMark g₁ 0 1 (ranked .0) .number ≡ k

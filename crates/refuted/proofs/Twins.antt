@@ -14,7 +14,7 @@ use Rattle.calls.specs.Call.{Call}
 use Rattle.calls.specs.Result.{CallResult, resultOf}
 use Rattle.promise.specs.Build.{Does}
 use Rattle.promise.specs.Past.{Past}
-use Rattle.promise.specs.Run.{Gateway, does, after, lineAt, Adds, Step, calls, here, Run}
+use Rattle.promise.specs.Run.{Gateway, does, after, lineAt, partIn, Adds, Step, calls, here, Run}
 use Rattle.promise.specs.Promise.{sendsBy, receivesBy, InRelay}
 use Rattle.promise.specs.Ends.{sendsOf, receivesOf}
 use Rattle.promise.specs.Demand2.{Ready}
@@ -66,13 +66,13 @@ module _ {test : ℕ → ℕ → Bool} {g h : Gateway} {p q : Past} (t : Twin te
   S-is = sym (promised (t .ours) .there 1 refl .counted)
 
   pub h-is : sendsBy g 0 p 1 .h ≡ lineAt g 0 .sending1 .base
-  h-is = ap (λ (o : Bool). sendsOf (g .store) 0 (pick o (lineAt g 0) closedLine) 1 .h) (t .mine .0)
+  h-is = ap (λ (o : Bool). sendsOf (partIn g 0) (pick o (lineAt g 0) closedLine) 1 .h) (t .mine .0)
 
   pub R-is : receivesBy h 0 q 1 .R ≡ length (q .handed 1)
   R-is = sym (promised (t .ours) .there 1 refl .next)
 
   pub next-is : lineAt h 0 .receiving1 .next ≡ length (q .handed 1)
-  next-is = sym (ap (λ (o : Bool). receivesOf (h .store) 0 (pick o (lineAt h 0) closedLine) 1 .R) (t .yours .0)) ∙ R-is
+  next-is = sym (ap (λ (o : Bool). receivesOf (partIn h 0) (pick o (lineAt h 0) closedLine) 1 .R) (t .yours .0)) ∙ R-is
 
   pub taken-is : lineAt g 0 .sending1 .taken ≡ length (p .taken 1)
-  taken-is = sym (ap (λ (o : Bool). sendsOf (g .store) 0 (pick o (lineAt g 0) closedLine) 1 .S) (t .mine .0)) ∙ S-is
+  taken-is = sym (ap (λ (o : Bool). sendsOf (partIn g 0) (pick o (lineAt g 0) closedLine) 1 .S) (t .mine .0)) ∙ S-is

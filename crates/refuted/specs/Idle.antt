@@ -9,7 +9,7 @@ use Rattle.ground.specs.Answer.{accepted, refused}
 use Rattle.ground.specs.Pick.{pick}
 use Rattle.ground.specs.declared.Refusal.{Refusal}
 use Rattle.packet.specs.Read.{headAt}
-use Rattle.line.specs.Line.{receivingOf, withSides}
+use Rattle.line.specs.Line.{receivingOf, withParts}
 use Rattle.line.specs.declared.Line.{Line}
 use Rattle.book.specs.Book.{lineOf, withLine}
 use Rattle.book.specs.declared.Book.{Book}
@@ -96,7 +96,7 @@ storesNothing = doing (arriving loses)
 
 -- the line as the packet leaves it, but with nothing received
 abbrev pub unread : Line → Line → Line
-unread old new = withSides new (new .sending1) (new .sending2) (old .receiving1) (old .receiving2)
+unread old new = withParts new (new .modes) (new .sending1) (new .sending2) (old .receiving1) (old .receiving2) (new .owed)
 
 -- the packet's message is acknowledged and not stored
 abbrev pub ignored : Arrives

@@ -1,6 +1,7 @@
 -- QUICK BUILDS: document 01's 'Errors a quick build makes', written down as builds. Each is shown to fail a demand. One is not here, as no demand
 -- excludes it: a repeat that goes unacknowledged. It is the exact contract of an arrival that does.
 -- Assumes nothing.
+use Rattle.line.specs.Figures.{sendWindow}
 use Prim.Native.Nat.{ℕ}
 use mathlib.Core.Bool.{Bool}
 use mathlib.Core.List.{_∷_}
@@ -11,7 +12,7 @@ use Rattle.places.specs.declared.Place.{Place}
 use Rattle.places.specs.declared.Place.the-variants.{At, Missing}
 use Rattle.sending.specs.Sending.{underWay, movedBy}
 use Rattle.sending.specs.declared.Sending.{Sending}
-use Rattle.line.specs.Line.{withSides}
+use Rattle.line.specs.Line.{withParts}
 use Rattle.line.specs.declared.Line.{Line}
 use Rattle.book.specs.Book.{lineOf, withLine, openIn}
 use Rattle.calls.specs.Call as call
@@ -34,8 +35,8 @@ pastAcked w s Missing = movedBy w s (underWay s)
 
 abbrev freed : Line → Line
 freed l =
-    withSides l (pastAcked 32 (l .sending1) (rankOf (maskOf (l .sending1 .unacked)) 0)) (pastAcked 8 (l .sending2) (rankOf (maskOf (l .sending2 .unacked)) 0))
-    (l .receiving1) (l .receiving2)
+    withParts l (l .modes) (pastAcked (sendWindow l 1) (l .sending1) (rankOf (maskOf (l .sending1 .unacked)) 0)) (pastAcked (sendWindow l 2) (l .sending2) (rankOf (maskOf (l .sending2 .unacked)) 0))
+    (l .receiving1) (l .receiving2) (l .owed)
 
 abbrev pub frees : Arrives
 frees s b store out =

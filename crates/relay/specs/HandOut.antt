@@ -5,11 +5,12 @@ use mathlib.Core.List.{List, [], _∷_, _++_}
 use lib.Dec.{leb}
 use Rattle.ground.specs.Refusal.{Test, must}
 use Rattle.ground.specs.declared.Refusal.the-variants.{ROOM}
-use Rattle.channel.specs.Channel.{windowOf}
 use Rattle.receiving.specs.Receiving.{handTests, nextSize, handedOut}
 use Rattle.line.specs.Line.{receivingOf, withReceiving}
+use Rattle.line.specs.Figures.{receiveWindow}
+use Rattle.line.specs.Part.{regionOf}
 use Rattle.line.specs.declared.Line.{Line}
-use Rattle.store.specs.Store.{regionOf, octetsIn}
+use Rattle.store.specs.Store.{octetsIn}
 use Rattle.store.specs.declared.Way.the-variants.{Receiving}
 use Rattle.relay.specs.RelayTests.{relayChannelTests}
 
@@ -18,9 +19,9 @@ unfoldable pub handCallTests : Line → ℕ → ℕ → List Test
 handCallTests l channel space = relayChannelTests l channel ++ (handTests (receivingOf l channel) ++ (must (leb (nextSize (receivingOf l channel)) space) ROOM ∷ []))
 
 -- "Handing out gives message R": its octets (RULES 5.8, RULES 5.9)
-abbrev pub handedOctets : Line → ℕ → ℕ → List ℕ → List ℕ
-handedOctets l i channel store = octetsIn store (regionOf i Receiving channel) (receivingOf l channel .origin) (nextSize (receivingOf l channel))
+abbrev pub handedOctets : Line → ℕ → List ℕ → List ℕ
+handedOctets l channel part = octetsIn part (regionOf l Receiving channel) (receivingOf l channel .origin) (nextSize (receivingOf l channel))
 
 -- "and moves R on" (RULES 5.8)
 abbrev pub handedLine : Line → ℕ → Line
-handedLine l channel = withReceiving l channel (handedOut (windowOf channel) (receivingOf l channel))
+handedLine l channel = withReceiving l channel (handedOut (receiveWindow l channel) (receivingOf l channel))

@@ -1,5 +1,5 @@
-// What taking, handing out and the report refuse (RULES 14.3, RULES 14.5, RULES 14.7), and what they do to one line and to its slots in
-// the store (RULES 5.1, RULES 5.8, RULES 5.10). Each call is a verdict, worked out first, and an effect, made only where the verdict
+// What taking, handing out and the report refuse (RULES 14.3, RULES 14.5, RULES 14.7), and what they do to one line and to its
+// part of the store (RULES 5.1, RULES 5.8, RULES 5.10). Each call is a verdict, worked out first, and an effect, made only where the verdict
 // lets it pass. A verdict asks that the line meets what BOOK asks; `calls` tests the book and the store's length before that.
 ghost use mathlib.Core.Path.{_≡_};
 ghost use mathlib.Core.Bool.{true};
@@ -13,14 +13,13 @@ ghost use Rattle.relay.specs.RelayTests.{relayLineTests, relayChannelTes
 ghost use Rattle.sending.specs.Sending.{heldCount};
 ghost use Rattle.receiving.specs.Receiving.{nextSize};
 ghost use Rattle.line.specs.Line.{sendingOf, receivingOf};
+ghost use Rattle.line.specs.Part.{partLength};
 ghost use Rattle.relay.specs.HandOut.{handCallTests, handedOctets, handedLine};
-ghost use Rattle.relay.specs.Take.{takeCallTests, tookLine, tookStore};
-use channel::Channel;
+ghost use Rattle.relay.specs.Take.{takeCallTests, tookLine, tookPart};
 use ground::Refusal;
 use ground::Verdict;
 use line::Line;
 use mode::Modes;
-use store::Region;
 use store::Way;
 
 // What every call on a line's channels asks first: NOLINE, MODE.
@@ -63,9 +62,10 @@ pub fn may_take(l: Line, channel: u8, n: usize) -> Verdict
     match earlier {
         Verdict::Refuse(r) => Verdict::Refuse(r),
         Verdict::Pass => {
-            if (0 < n) & (n <= 132) {
+            let largest = l.send_largest() as usize;
+            if (0 < n) & (n <= largest) {
                 let side = l.sending(channel);
-                let window = Channel::of(channel).window;
+                let window = l.send_window(channel);
                 side.may_take(window)
             } else {
                 Verdict::Refuse(Refusal::SIZE)
@@ -75,15 +75,15 @@ pub fn may_take(l: Line, channel: u8, n: usize) -> Verdict
 }
 
 // Takes a message: its octets go into the slot of its place, and the line has one message more.
-pub fn take(l: Line, i: u8, store: &mut [u8], channel: u8, message: &[u8]) -> Line
-    requires { ⌜ (lineFits l ≡ true) × (i < 4) × (42240 ≤ length (now store)) × (verdict (takeCallTests l channel (length (now message))) ≡ Pass) ⌝ }
-    ensures { λ r. ⌜ (r ≡ tookLine l channel (length (now (message .entry)))) × (now (store .exit) ≡ tookStore l i channel (now (message .entry)) (now (store .entry))) ⌝ }
+pub fn take(l: Line, part: &mut [u8], channel: u8, message: &[u8]) -> Line
+    requires { ⌜ (lineFits l ≡ true) × (partLength l ≤ length (now part)) × (verdict (takeCallTests l channel (length (now message))) ≡ Pass) ⌝ }
+    ensures { λ r. ⌜ (r ≡ tookLine l channel (length (now (message .entry)))) × (now (part .exit) ≡ tookPart l channel (now (message .entry)) (now (part .entry))) ⌝ }
 {
     let side = l.sending(channel);
-    let window = Channel::of(channel).window;
+    let window = l.send_window(channel);
     let place = side.next_place(window);
-    let region = Region::of(i, Way::Sending, channel);
-    region.put(store, place, message);
+    let region = l.region(Way::Sending, channel);
+    region.put(part, place, message);
     let next = side.took(window, message.len() as u16);
     l.with_sending(channel, next)
 }
@@ -114,15 +114,15 @@ pub fn may_hand_out(l: Line, channel: u8, space: usize) -> Verdict
 }
 
 // Hands out message R: its octets go to the front of the output, and R moves on.
-pub fn hand_out(l: Line, i: u8, store: &[u8], channel: u8, out: &mut [u8]) -> Line
-    requires { ⌜ (lineFits l ≡ true) × (i < 4) × (42240 ≤ length (now store)) × (verdict (handCallTests l channel (length (now out))) ≡ Pass) ⌝ }
-    ensures { λ r. ⌜ (r ≡ handedLine l channel) × (now (out .exit) ≡ handedOctets l i channel (now (store .entry)) ++ drop (nextSize (receivingOf l channel)) (now (out .entry))) ⌝ }
+pub fn hand_out(l: Line, part: &[u8], channel: u8, out: &mut [u8]) -> Line
+    requires { ⌜ (lineFits l ≡ true) × (partLength l ≤ length (now part)) × (verdict (handCallTests l channel (length (now out))) ≡ Pass) ⌝ }
+    ensures { λ r. ⌜ (r ≡ handedLine l channel) × (now (out .exit) ≡ handedOctets l channel (now (part .entry)) ++ drop (nextSize (receivingOf l channel)) (now (out .entry))) ⌝ }
 {
     let side = l.receiving(channel);
-    let window = Channel::of(channel).window;
-    let region = Region::of(i, Way::Receiving, channel);
+    let window = l.receive_window(channel);
+    let region = l.region(Way::Receiving, channel);
     let size = side.next_size() as usize;
-    region.copy_out(store, side.origin, size, out);
+    region.copy_out(part, side.origin, size, out);
     l.with_receiving(channel, side.handed_out(window))
 }
 

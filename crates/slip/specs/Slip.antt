@@ -38,13 +38,17 @@ slipFits v =
     (ltb (v .identifier) 128 ∷ leb 96 (v .kind) ∷ ltb (v .kind) 128
     ∷ ltb (v .count1) 16777216 ∷ ltb (v .count2) 16777216 ∷ leb (v .reason) 1 ∷ [])
 
+-- a slip of form 1 has 12 octets (RULES 8.1)
+abbrev pub slipLength : ℕ
+slipLength = 12
+
 -- "Slip read: LENGTH, FORM, RANGE" (RULES 14.17)
 abbrev pub readTests : List ℕ → List Test
-readTests s = must (eqb (length s) 12) LENGTH ∷ must (formFits s) FORM ∷ must (slipFits (slipAt s)) RANGE ∷ []
+readTests s = must (eqb (length s) slipLength) LENGTH ∷ must (formFits s) FORM ∷ must (slipFits (slipAt s)) RANGE ∷ []
 
 -- a slip written by itself: RANGE, ROOM (RULES 14.20). Of these closing, which writes one, has ROOM only (RULES 14.9)
 abbrev pub writeTests : Slip → ℕ → List Test
-writeTests v space = must (slipFits v) RANGE ∷ must (leb 12 space) ROOM ∷ []
+writeTests v space = must (slipFits v) RANGE ∷ must (leb slipLength space) ROOM ∷ []
 
 -- what each case of a reading stands for: the slip's values in the order of its fields (RULES 8.4), or the refusal's number (RULES 17.3)
 abbrev pub answerOf : Reading → Answer

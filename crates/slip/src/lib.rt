@@ -24,6 +24,9 @@ pub struct Slip {
 }
 
 impl Slip {
+    // How many octets a slip has.
+    pub const LENGTH: usize = 12;
+
     // Closing was asked for.
     pub const ASKED: u8 = 0;
 
@@ -75,7 +78,7 @@ fn slip_fits(v: Slip) -> bool
 fn read_verdict(s: &[u8]) -> Verdict
     ensures { λ r. ⌜ r ≡ verdict (readTests (now (s .entry))) ⌝ }
 {
-    if s.len() != 12 {
+    if s.len() != Slip::LENGTH {
         return Verdict::Refuse(Refusal::LENGTH);
     }
     if !form_fits(s) {
@@ -104,7 +107,7 @@ fn write_verdict(v: Slip, space: usize) -> Verdict
     if !slip_fits(v) {
         return Verdict::Refuse(Refusal::RANGE);
     }
-    if 12 <= space {
+    if Slip::LENGTH <= space {
         Verdict::Pass
     } else {
         Verdict::Refuse(Refusal::ROOM)
@@ -136,7 +139,7 @@ pub fn write(out: &mut [u8], v: Slip) -> WriteAnswer
         Verdict::Refuse(r) => WriteAnswer::Refused(r),
         Verdict::Pass => {
             put(out, v);
-            WriteAnswer::Wrote(12)
+            WriteAnswer::Wrote(Slip::LENGTH)
         }
     }
 }

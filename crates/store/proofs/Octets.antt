@@ -1,4 +1,4 @@
--- A message put into its slot is read back from there; every other slot, and every octet past the store, stays as it was.
+-- A message put into its slot is read back from there, and every other slot stays as it was.
 -- Assumes nothing.
 use Prim.Native.Nat.{ℕ, _+_, _-_, _≤_, _<_}
 use mathlib.Core.Path.{_≡_, sym, ap, _∙_}
@@ -8,13 +8,13 @@ use native.Mathlib.Nat.{le-refl}
 use native.Mathlib.Omega.{arith}
 use lib.ListN.{length, take, drop, length-drop, take-append-drop}
 use lib.Seq.{sets, sets-eq, length-sets, take-append-le, drop-append-le, drop-at, drop-drop, drop-append-add, length-take-le, take-append-seam, take-take}
-use Rattle.store.specs.Store.{slotAt, regionEnd, SlotIn, octetsIn, slotOctets}
+use Rattle.store.specs.Store.{slotAt, SlotIn, octetsIn, slotOctets}
 use Rattle.store.specs.declared.Region.{Region}
-use Rattle.store.proofs.Slots.{Apart, Before, places-apart, regions-rooms, Owner, Served, region, region-end, slot-end}
+use Rattle.store.proofs.Slots.{Apart, Before, room-next, places-apart, regions-rooms}
 
 -- Octets x written into a list s from octet b on.
 module _ (s : List ℕ) (b : ℕ) (x : List ℕ) (fits : b + length x ≤ length s) where
-  written : sets s b x ≡ take b s ++ (x ++ drop (b + length x) s)
+  pub written : sets s b x ≡ take b s ++ (x ++ drop (b + length x) s)
   written = sets-eq x s b fits ∙ append-assoc (take b s) x (drop (b + length x) s)
 
   front : length (take b s) ≡ b
@@ -46,7 +46,7 @@ module _ (s : List ℕ) (b : ℕ) (x : List ℕ) (fits : b + length x ≤ length
 -- A message put into the slot of place p.
 module _ (s : List ℕ) (g : Region) (p : ℕ) (x : List ℕ) (r : SlotIn g p (length s)) (small : length x ≤ g .size) where
   in-store : slotAt g p + length x ≤ length s
-  in-store = omega (arith, slot-end g p (r .placed), r .inside)
+  in-store = omega (arith, r .inside)
 
   -- it is what the slot holds
   pub put-same : octetsIn (sets s (slotAt g p) x) g p (length x) ≡ x
@@ -59,26 +59,22 @@ module _ (s : List ℕ) (g : Region) (p : ℕ) (x : List ℕ) (r : SlotIn g p (l
       ⊎-elim (λ a. ap (take n) (behind s (slotAt g p) x in-store (slotAt k q) (omega arith)))
       (λ a. read-before s (slotAt g p) x in-store (slotAt k q) n (omega arith))
 
-  -- the octets behind its region, those past the store among them, stay
-  pub put-past : (n : ℕ) → regionEnd g ≤ n → drop n (sets s (slotAt g p) x) ≡ drop n s
-  put-past n l = behind s (slotAt g p) x in-store n (omega (arith, slot-end g p (r .placed)))
-
   pub put-length : length (sets s (slotAt g p) x) ≡ length s
   put-length = length-sets s (slotAt g p) x
 
--- The slots of a region as a function of the place: what the two sides of a channel are read with.
-module _ (s : List ℕ) (g : Region) (inside : regionEnd g ≤ length s) where
+-- The v slots of a region as a function of the place: what the two sides of a channel are read with.
+module _ (s : List ℕ) (g : Region) (v : ℕ) (inside : slotAt g v ≤ length s) where
   -- a slot has as many octets as the largest message
-  pub slot-length : (q : ℕ) → q < g .places → length (slotOctets s g q) ≡ g .size
-  slot-length q l = length-take-le (g .size) (drop (slotAt g q) s) (omega (arith, slot-end g q l, length-drop (slotAt g q) s))
+  pub slot-length : (q : ℕ) → q < v → length (slotOctets s g q) ≡ g .size
+  slot-length q l = length-take-le (g .size) (drop (slotAt g q) s) (omega (arith, room-next g q v l, length-drop (slotAt g q) s))
 
   -- the first n of them
   pub slot-front : (q n : ℕ) → n ≤ g .size → take n (slotOctets s g q) ≡ octetsIn s g q n
   slot-front q n l = take-take n (g .size) (drop (slotAt g q) s) l
 
-  module _ (p : ℕ) (x : List ℕ) (placed : p < g .places) (small : length x ≤ g .size) where
+  module _ (p : ℕ) (x : List ℕ) (placed : p < v) (small : length x ≤ g .size) where
     in-room : SlotIn g p (length s)
-    in-room = record { placed = placed; inside = inside }
+    in-room = record { inside = omega (arith, room-next g p v placed) }
 
     -- a message put into one of them lies at its front
     pub slot-put : take (length x) (slotOctets (sets s (slotAt g p) x) g p) ≡ x
@@ -88,11 +84,5 @@ module _ (s : List ℕ) (g : Region) (inside : regionEnd g ≤ length s) where
     pub slot-kept : (q : ℕ) → q ≢ p → slotOctets (sets s (slotAt g p) x) g q ≡ slotOctets s g q
     slot-kept q d = put-other s g p x in-room small g q (g .size) (le-refl (g .size)) (places-apart g p q (λ e. d (sym e)))
 
-    pub region-kept : (k : Region) → Before g k ⊎ Before k g → (q : ℕ) → q < k .places → slotOctets (sets s (slotAt g p) x) k q ≡ slotOctets s k q
-    region-kept k a q l = put-other s g p x in-room small k q (k .size) (le-refl (k .size)) (regions-rooms g k p q placed l a)
-
--- "Octets past it are never touched": whichever line, way and channel the message is of
-pub past-stays : (s : List ℕ) (y : Owner) (p : ℕ) (x : List ℕ) → Served y → p < region y .places → length x ≤ region y .size → 42240 ≤ length s
-    → drop 42240 (sets s (slotAt (region y) p) x) ≡ drop 42240 s
-past-stays s y p x v l small long =
-    put-past s (region y) p x (record { placed = l; inside = omega (arith, region-end y v) }) small 42240 (region-end y v)
+    pub region-kept : (k : Region) (w : ℕ) → Before g v k ⊎ Before k w g → (q : ℕ) → q < w → slotOctets (sets s (slotAt g p) x) k q ≡ slotOctets s k q
+    region-kept k w a q l = put-other s g p x in-room small k q (k .size) (le-refl (k .size)) (regions-rooms g k v w p q placed l a)

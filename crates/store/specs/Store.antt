@@ -1,47 +1,35 @@
--- Where message octets lie: "one lent store of at least 42,240 octets (4 lines, 2 ways, 40 messages of 132)" (RULES 6.1).
+-- Where message octets lie in a line's part of the store (RULES 6.4), and what a part is of the whole.
 -- Assumes nothing.
-use Prim.Native.Nat.{ℕ, _+_, _*_, _≤_, _<_}
-use mathlib.Core.List.{List}
+use Prim.Native.Nat.{ℕ, _+_, _*_, _≤_}
+use mathlib.Core.List.{List, _++_}
 use lib.Dec.{eqb}
 use lib.ListN.{take, drop}
 use Rattle.ground.specs.Pick.{pick}
 use Rattle.store.specs.declared.Region.{Region}
-use Rattle.store.specs.declared.Way.{Way}
-use Rattle.store.specs.declared.Way.the-variants.{Sending, Receiving}
 
--- the octets of a line and a way lie together, the sending way's first (RULES 6.4)
-abbrev pub wayNumber : Way → ℕ
-wayNumber Sending = 0
-wayNumber Receiving = 1
-
--- the octet that those of a line and a way begin at (RULES 6.4)
-abbrev pub startOf : ℕ → Way → ℕ
-startOf line way = (line * 2 + wayNumber way) * (40 * 132)
-
--- the one definition of where the slots of a line, a way and a channel lie: 32 places of channel 1, then 8 of channel 2 (RULES 6.4)
-unfoldable pub regionOf : ℕ → Way → ℕ → Region
-regionOf line way channel =
-    pick (eqb channel 1)
-    (record { start = startOf line way; places = 32; size = 132 })
-    (record { start = startOf line way + 32 * 132; places = 8; size = 132 })
+-- the slots of a channel among those of one way, which begin at `start`: channel 1 has `places` of them, and channel 2 those after (RULES 6.4)
+abbrev pub regionFrom : ℕ → ℕ → ℕ → ℕ → Region
+regionFrom start places size channel = record { start = pick (eqb channel 1) start (start + places * size); size = size }
 
 -- the octet that the slot of a place begins at (RULES 6.4)
 abbrev pub slotAt : Region → ℕ → ℕ
 slotAt g place = g .start + place * g .size
 
--- the octet after a region's last
-abbrev pub regionEnd : Region → ℕ
-regionEnd g = g .start + g .places * g .size
-
--- a place has a slot in the region, and the region lies in the first n octets
+-- the slot of a place lies in the first n octets
 pub record SlotIn (g : Region) (place n : ℕ) : Type 0 where
-  pub placed : place < g .places
-  pub inside : regionEnd g ≤ n
+  pub inside : slotAt g place + g .size ≤ n
 
 -- the first `size` octets in the slot of a place
 abbrev pub octetsIn : List ℕ → Region → ℕ → ℕ → List ℕ
-octetsIn store g place size = take size (drop (slotAt g place) store)
+octetsIn part g place size = take size (drop (slotAt g place) part)
 
 -- all the octets in the slot of a place
 abbrev pub slotOctets : List ℕ → Region → ℕ → List ℕ
-slotOctets store g place = octetsIn store g place (g .size)
+slotOctets part g place = octetsIn part g place (g .size)
+
+-- the n octets of a store from octet `start` on, and the store with others in their place
+abbrev pub partAt : ℕ → ℕ → List ℕ → List ℕ
+partAt start n store = take n (drop start store)
+
+abbrev pub withPartAt : ℕ → ℕ → List ℕ → List ℕ → List ℕ
+withPartAt start n store part = take start store ++ (part ++ drop n (drop start store))

@@ -1,12 +1,12 @@
-// Where message octets lie in one lent store of 4 lines, 2 ways and 40 messages of 132 (RULES 6.1, RULES 6.4), and how they are put
-// there and copied out. A region is the slots of one line, way and channel: where it starts, how many slots it has and their size.
-// What lies in a slot, and for how long, is said by the record of the side that owns it.
+// Where message octets lie (RULES 6.4), and how they are put there and copied out. A line has a part of the one lent store. A region is
+// the slots of one way and one channel in that part: where it starts, and how large a slot is. What lies in a slot, and for how long, is
+// said by the record of the side that owns it; how many slots there are, by the line; where a line's part lies, by the book.
 ghost use mathlib.Core.Path.{_≡_};
 ghost use mathlib.Core.List.{_++_};
 ghost use Prim.Native.Nat.{_+_, _*_, _^_, _≤_, _<_};
 ghost use lib.ListN.{length, drop};
 ghost use lib.Seq.{sets};
-ghost use Rattle.store.specs.Store.{wayNumber, regionOf, slotAt, SlotIn, octetsIn};
+ghost use Rattle.store.specs.Store.{regionFrom, slotAt, SlotIn, octetsIn};
 
 // The way that messages go: taken for sending, or stored as they arrive.
 pub enum Way {
@@ -14,53 +14,25 @@ pub enum Way {
     Receiving,
 }
 
-impl Way {
-    // Which of the two it is: the sending way's regions come first.
-    pub fn number(self) -> usize
-        ensures { λ r. ⌜ r ≡ wayNumber self ⌝ }
-    {
-        match self {
-            Way::Sending => 0,
-            Way::Receiving => 1,
-        }
-    }
-}
-
 pub struct Region {
-    // The octet that the first slot begins at.
+    // The octet of the line's part that the first slot begins at.
     pub start: usize,
-    // How many slots there are, one for each place of the window.
-    pub places: u32,
     // How many octets a slot has: the largest message's.
     pub size: usize,
 }
 
 impl Region {
-    // How many octets all regions have.
-    pub const LENGTH: usize = 42240;
-
-    // The slots of both channels of one line and way.
-    pub const SLOTS: usize = 40;
-
-    pub const SIZE: usize = 132;
-
-    // The region of a line, a way and a channel: 32 slots of channel 1, then 8 of channel 2.
-    pub fn of(line: u8, way: Way, channel: u8) -> Region
-        ensures { λ r. ⌜ r ≡ regionOf line way channel ⌝ }
+    // The slots of a channel among those of one way, which begin at `start`: channel 1 has `places` of them, and channel 2 those after.
+    pub fn from(start: usize, places: u32, size: usize, channel: u8) -> Region
+        requires { ⌜ start + places * size < 2 ^ 64 ⌝ }
+        ensures { λ r. ⌜ r ≡ regionFrom start places size channel ⌝ }
     {
-        let side = way.number();
-        let start = (line as usize * 2 + side) * (Region::SLOTS * Region::SIZE);
         if channel == 1 {
-            return Region {
-                start,
-                places: 32,
-                size: Region::SIZE,
-            };
+            return Region { start, size };
         }
         Region {
-            start: start + 32 * Region::SIZE,
-            places: 8,
-            size: Region::SIZE,
+            start: start + places as usize * size,
+            size,
         }
     }
 

@@ -1,20 +1,21 @@
 -- A packet written leaves a line that BOOK lets pass, with its settings and its modes as they were.
 -- Assumes nothing.
-use mathlib.Core.Path.{_≡_, refl}
+use mathlib.Core.Path.{_≡_}
 use mathlib.Core.Bool.{true}
 use Rattle.mode.specs.Given.{modem}
+use Rattle.owed.specs.Owed.{withoutThree}
 use Rattle.owed.proofs.Steps.{leave-keeps}
 use Rattle.line.specs.Line.{isOpen}
 use Rattle.line.specs.Fit.{lineFits}
 use Rattle.line.specs.Shape.{Shaped}
 use Rattle.line.specs.declared.Line.{Line}
 use Rattle.line.proofs.Keeps.{line-ok, ok-line}
-use Rattle.relay.proofs.Keeps.{SameSettings}
+use Rattle.line.proofs.Same.{SameSettings, with-owed-same}
 use Rattle.writing.specs.Write.{wroteLine}
 
 pub wrote-line-same : (l : Line) → SameSettings l (wroteLine l)
 unfolding wroteLine
-wrote-line-same l = record { opened = refl; identifier = refl; kind = refl; modes = refl }
+wrote-line-same l = with-owed-same l (withoutThree (l .owed))
 
 -- in modem relay what BOOK asks is kept, and so are the lengths of the line's arrays
 pub wrote-line-keeps : (l : Line) → isOpen l ≡ true → lineFits l ≡ true → l .modes .local ≡ modem → Shaped l

@@ -23,7 +23,8 @@ use Rattle.packet.specs.Write.{packetOctets, numbersPlaced, fieldsFit, writeTes
 use Rattle.packet.proofs.Writes.{packet-length}
 use Rattle.owed.specs.Owed.{owedOf, firstThree, allSpans, owedFits}
 use Rattle.owed.proofs.Steps.{owed-ok}
-use Rattle.line.specs.Fit.{largest, lineFits}
+use Rattle.line.specs.Fit.{lineFits}
+use Rattle.line.specs.Figures.{sendLargest}
 use Rattle.line.specs.declared.Line.{Line}
 use Rattle.line.proofs.Keeps.{LineOk, line-ok}
 use Rattle.writing.specs.Write.{acksFor, baseFor, headFor, headerLengthFor, emptyPacket, emptyTests}
@@ -71,9 +72,9 @@ module _ (l : Line) where
 
   -- with a number of 14 bits that has its place, a payload of a size that fits, and room
   pub packet-passes : LineOk l → (channel number space : ℕ) (payload : List ℕ) → channel ≤ 2 → number < 16384
-      → numbersPlaced (headFor l channel number) (length payload) ≡ true → sizeFits channel (length payload) largest ≡ true
+      → numbersPlaced (headFor l channel number) (length payload) ≡ true → sizeFits channel (length payload) (sendLargest l) ≡ true
       → length (packetOctets (headFor l channel number) (acksFor l) payload) ≤ space
-      → verdict (writeTests (headFor l channel number) (acksFor l) payload largest space) ≡ Pass
+      → verdict (writeTests (headFor l channel number) (acksFor l) payload (sendLargest l) space) ≡ Pass
   unfolding fieldsFit
   packet-passes k channel number space payload c n p z r =
       let s = each (leb (l .identifier) 127 ∷ leb 96 (l .kind) ∷ leb (l .kind) 127 ∷ []) (k .settings) in
@@ -82,7 +83,7 @@ module _ (l : Line) where
       let f = together (ltb (l .identifier) 128 ∷ ltb (l .kind) 128 ∷ ltb number 16384 ∷ ltb (baseFor l channel) 16384 ∷ leb (acksFor l .count) 3 ∷ acksBlank (acksFor l) ∷ numbersPlaced (headFor l channel number) (length payload) ∷ [])
       (lt-ltb (l .identifier) 128 (omega arith), (lt-ltb (l .kind) 128 (omega arith), (lt-ltb _ _ n, (lt-ltb _ _ (base-lt channel), (le-leb _ _ acks-few, (acks-blank, (p, tt))))))) in
       let g = together (ltb channel 3 ∷ acksServed (acksFor l) ∷ []) (lt-ltb channel 3 (omega arith), (acks-served (k .owed), tt)) in
-      passes (writeTests (headFor l channel number) (acksFor l) payload largest space) (f, (g, (z, (le-leb _ _ r, tt))))
+      passes (writeTests (headFor l channel number) (acksFor l) payload (sendLargest l) space) (f, (g, (z, (le-leb _ _ r, tt))))
 
 -- an empty packet is its header
 pub empty-length : (l : Line) (channel : ℕ) → length (emptyPacket l channel) ≡ headerLengthFor l
@@ -105,11 +106,11 @@ module _ (l : Line) (fits : lineFits l ≡ true) (channel space : ℕ) (pass : v
   unfolding numbersPlaced baseFor
   placed = pick-by (λ (t : Bool). t ≡ true) (eqb channel 0) (λ e. rw e) (λ e. refl)
 
-  fitting : sizeFits channel 0 largest ≡ true
+  fitting : sizeFits channel 0 (sendLargest l) ≡ true
   unfolding sizeFits
   fitting = pick-by (λ (t : Bool). t ≡ true) (eqb channel 0) (λ e. refl) (λ e. refl)
 
-  pub empty-passes : verdict (writeTests (headFor l channel 0) (acksFor l) [] largest space) ≡ Pass
+  pub empty-passes : verdict (writeTests (headFor l channel 0) (acksFor l) [] (sendLargest l) space) ≡ Pass
   unfolding emptyTests emptyPacket
   empty-passes = packet-passes l ok channel 0 space [] (leb-true _ _ (tests .1 .1 .0)) (omega arith) placed fitting (rw (empty-length l channel) (leb-true _ _ (tests .1 .1 .1 .0)))
 

@@ -20,7 +20,7 @@ use Rattle.places.specs.Places.{maskOf, rankOf}
 use Rattle.places.specs.declared.Place.{Place}
 use Rattle.places.specs.declared.Place.the-variants.{At, Missing}
 use Rattle.places.proofs.Ranks.{rank-holds, rank-below}
-use Rattle.channel.specs.Channel.{modulus, windowOf}
+use Rattle.channel.specs.Channel.{modulus}
 use Rattle.sending.specs.Sending.{SendingOk, sendingFits, heldAt, heldOf, underWay}
 use Rattle.channel.specs.Sizes.{sizeFits}
 use Rattle.sending.specs.declared.Held.{Held}
@@ -33,16 +33,18 @@ use Rattle.packet.specs.Read as packet
 use Rattle.packet.specs.Write.{numbersPlaced, writeTests}
 use Rattle.packet.proofs.Writes.{packet-length}
 use Rattle.owed.proofs.Steps.{owed-ok}
-use Rattle.line.specs.Fit.{largest, lineFits}
+use Rattle.line.specs.Fit.{lineFits}
+use Rattle.line.specs.Figures.{sendWindow, sendLargest}
+use Rattle.line.specs.Part.{partLength, regionOf}
+use Rattle.line.proofs.Part.{region-size}
 use Rattle.line.specs.Line.{sendingOf}
 use Rattle.line.specs.declared.Line.{Line}
 use Rattle.line.proofs.Keeps.{LineOk, sending-side}
-use Rattle.store.specs.Store.{regionOf, slotAt, SlotIn, octetsIn}
+use Rattle.store.specs.Store.{slotAt, SlotIn, octetsIn}
 use Rattle.store.specs.declared.Region.{Region}
 use Rattle.store.specs.declared.Way.the-variants as way
-use Rattle.store.proofs.Slots.{slot-end}
 use Rattle.relay.specs.RelayTests.{reliable, relayChannelTests}
-use Rattle.relay.proofs.Lines.{ok, inside, sending-steps, channel-span, region-size, slot-there}
+use Rattle.relay.proofs.Lines.{ok, inside, sending-steps, channel-span, slot-in}
 use Rattle.writing.specs.Write.{acksFor, headFor}
 use Rattle.writing.specs.Send.{ranked, isHeld, heldIn, sentLength, sendTests, sendVerdict, Sendable}
 use Rattle.writing.specs.declared.SendVerdict.{SendVerdict}
@@ -92,16 +94,16 @@ module _ (l : Line) (channel rank slot : ℕ) where
   may-passed = says-passed (verdict (sendTests l channel rank slot)) (heldIn (ranked l channel rank))
 
 -- a message found by its rank lies at a place of the window and has a size that BOOK lets pass
-held-there : (w : ℕ) (s : Sending) (rank : ℕ) → SendingOk w s → sendingFits w largest s ≡ true → isHeld (heldOf w s rank) ≡ true
-    → (heldIn (heldOf w s rank) .place < w) × (sizeFits largest (heldIn (heldOf w s rank) .size) ≡ true)
+held-there : (w z : ℕ) (s : Sending) (rank : ℕ) → SendingOk w s → sendingFits w z s ≡ true → isHeld (heldOf w s rank) ≡ true
+    → (heldIn (heldOf w s rank) .place < w) × (sizeFits z (heldIn (heldOf w s rank) .size) ≡ true)
 unfolding heldOf
-held-there w s rank k f = go (rankOf (maskOf (s .unacked)) rank) refl
+held-there w z s rank k f = go (rankOf (maskOf (s .unacked)) rank) refl
   where
     go : (p : Place) → rankOf (maskOf (s .unacked)) rank ≡ p → isHeld (heldAt w s p) ≡ true
-        → (heldIn (heldAt w s p) .place < w) × (sizeFits largest (heldIn (heldAt w s p) .size) ≡ true)
+        → (heldIn (heldAt w s p) .place < w) × (sizeFits z (heldIn (heldAt w s p) .size) ≡ true)
     go (At i) e t =
         let i-under : i < underWay s = rank-below (maskOf (s .unacked)) rank i (underWay s) (k .masked) e in
-        (place-lt w (s .origin) i (k .placed) (omega (arith, k)), sending-sized w largest s f i (omega (arith, k)) (rank-holds (maskOf (s .unacked)) rank i e .1))
+        (place-lt w (s .origin) i (k .placed) (omega (arith, k)), sending-sized w z s f i (omega (arith, k)) (rank-holds (maskOf (s .unacked)) rank i e .1))
     go Missing e t = clash t
 
 -- so a message that may be written can be
@@ -113,7 +115,7 @@ may-sendable l channel rank slot fits e =
     let a = pass-both (relayChannelTests l channel) (tested l channel rank slot k) (p .0) in
     let t = passed (tested l channel rank slot k) (a .1) in
     let s = sending-side l (ok l fits channel (a .0)) (inside l fits channel (a .0)) channel in
-    let u = held-there (windowOf channel) (sendingOf l channel) rank (sending-steps l fits channel (a .0)) s (t .0) in
+    let u = held-there (sendWindow l channel) (sendLargest l) (sendingOf l channel) rank (sending-steps l fits channel (a .0)) s (t .0) in
     rw (p .1) (record { asked = a .0; placed = u .0; sized = u .1; roomy = leb-true _ _ (t .1 .0) })
 
 -- What writing it needs.
@@ -128,44 +130,43 @@ module _ (l : Line) (fits : lineFits l ≡ true) (channel slot : ℕ) (h : Held)
   served : (1 ≤ channel) × (channel ≤ 2)
   served = channel-span channel send-reliable
 
-  pub send-size : (0 < h .size) × (h .size ≤ largest)
+  pub send-size : (0 < h .size) × (h .size ≤ sendLargest l)
   send-size =
-      let b = both-true (ltb 0 (h .size)) (leb (h .size) largest) (k .sized) in
+      let b = both-true (ltb 0 (h .size)) (leb (h .size) (sendLargest l)) (k .sized) in
       (ltb-true _ _ (b .0), leb-true _ _ (b .1))
 
   pub send-owes : l .owed .count ≤ 64
   send-owes = owed-ok (l .owed) (okay .owed) .few
 
-  module _ (i : ℕ) (small : i < 4) where
-    abbrev region : Region
-    region = regionOf i way.Sending channel
+  abbrev region : Region
+  region = regionOf l way.Sending channel
 
-    -- its place has a slot, and its octets lie in the store
-    pub send-in : SlotIn region (h .place) 42240
-    send-in = slot-there i way.Sending channel (h .place) 42240 small send-reliable (k .placed) (omega arith)
+  -- its place has a slot, and its octets lie in the line's part
+  pub send-in : SlotIn region (h .place) (partLength l)
+  send-in = slot-in l way.Sending channel (h .place) (partLength l) send-reliable (k .placed) (omega arith)
 
-    pub send-end : slotAt region (h .place) + h .size ≤ 42240
-    send-end = omega (arith, slot-end region (h .place) (send-in .placed), send-in .inside, region-size i way.Sending channel, send-size .1)
+  pub send-end : slotAt region (h .place) + h .size ≤ partLength l
+  send-end = omega (arith, send-in .inside, region-size l way.Sending channel, send-size .1)
 
-    module _ (store : List ℕ) (long : 42240 ≤ length store) where
-      abbrev octets : List ℕ
-      octets = octetsIn store region (h .place) (h .size)
+  module _ (part : List ℕ) (long : partLength l ≤ length part) where
+    abbrev octets : List ℕ
+    octets = octetsIn part region (h .place) (h .size)
 
-      octets-length : length octets ≡ h .size
-      octets-length =
-          let at = slotAt region (h .place) in
-          length-take-le (h .size) (drop at store) (omega (arith, length-drop at store, send-end))
+    octets-length : length octets ≡ h .size
+    octets-length =
+        let at = slotAt region (h .place) in
+        length-take-le (h .size) (drop at part) (omega (arith, length-drop at part, send-end))
 
-      placed : numbersPlaced (headFor l channel (h .number % modulus)) (length octets) ≡ true
-      unfolding numbersPlaced
-      placed = rw (ne-eqb channel 0 (λ e. omega (arith, served)), ne-eqb (length octets) 0 (λ e. omega (arith, octets-length, send-size .0)))
+    placed : numbersPlaced (headFor l channel (h .number % modulus)) (length octets) ≡ true
+    unfolding numbersPlaced
+    placed = rw (ne-eqb channel 0 (λ e. omega (arith, served)), ne-eqb (length octets) 0 (λ e. omega (arith, octets-length, send-size .0)))
 
-      fitting : packet.sizeFits channel (length octets) largest ≡ true
-      unfolding packet.sizeFits
-      fitting = rw (ne-eqb channel 0 (λ e. omega (arith, served))) (le-leb (length octets) largest (omega (arith, octets-length, send-size .1)))
+    fitting : packet.sizeFits channel (length octets) (sendLargest l) ≡ true
+    unfolding packet.sizeFits
+    fitting = rw (ne-eqb channel 0 (λ e. omega (arith, served))) (le-leb (length octets) (sendLargest l) (omega (arith, octets-length, send-size .1)))
 
-      -- and its packet may be written
-      pub send-passes : verdict (writeTests (headFor l channel (h .number % modulus)) (acksFor l) octets largest slot) ≡ Pass
-      send-passes =
-          packet-passes l okay channel (h .number % modulus) slot octets (served .1) (omega arith) placed fitting
-          (rw (packet-length (headFor l channel (h .number % modulus)) (acksFor l) (acks-few l) octets, octets-length) (k .roomy))
+    -- and its packet may be written
+    pub send-passes : verdict (writeTests (headFor l channel (h .number % modulus)) (acksFor l) octets (sendLargest l) slot) ≡ Pass
+    send-passes =
+        packet-passes l okay channel (h .number % modulus) slot octets (served .1) (omega arith) placed fitting
+        (rw (packet-length (headFor l channel (h .number % modulus)) (acksFor l) (acks-few l) octets, octets-length) (k .roomy))

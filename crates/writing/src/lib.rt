@@ -112,7 +112,8 @@ pub fn write_empty(l: Line, channel: u8, out: &mut [u8]) -> WriteStep
     let none = [0u8; 1];
     let head = head_for(l, channel, 0);
     let acks = acks_for(l);
-    let answer = packet::write_packet(out, head, acks, &none[..0], 132);
+    let largest = l.send_largest() as usize;
+    let answer = packet::write_packet(out, head, acks, &none[..0], largest);
     let line = wrote_line(l);
     WriteStep { line, answer }
 }

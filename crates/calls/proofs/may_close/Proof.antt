@@ -1,3 +1,4 @@
+use Rattle.slip.specs.Slip.{slipLength}
 use Rattle.calls.specs.Order.{closeOrder}
 use Rattle.calls.specs.Parts.{fitBook, lineNumber, mustBeOpen}
 use Rattle.book.specs.Book.{lineOf}
@@ -23,15 +24,15 @@ enum-told c = search needs
 
 returns : tie.Need-returns
 unfolding closeOrder
-returns c = let a = c .before .before .before .before .args in stops (fitBook (a .book) ∷ lineNumber (a .line) ∷ mustBeOpen (lineOf (a .book) (a .line)) ∷ []) (must (leb 12 (a .space)) ROOM ∷ []) refl (c .before .before .before .open-line-verdict .ensures) (c .before .earlier .given .1)
+returns c = let a = c .before .before .before .before .args in stops (fitBook (a .book) ∷ lineNumber (a .line) ∷ mustBeOpen (lineOf (a .book) (a .line)) ∷ []) (must (leb slipLength (a .space)) ROOM ∷ []) refl (c .before .before .before .open-line-verdict .ensures) (c .before .earlier .given .1)
 
 returns-2 : tie.Need-returns-2
 unfolding closeOrder
-returns-2 c = let a = c .before .before .before .before .args in goes-on (fitBook (a .book) ∷ lineNumber (a .line) ∷ mustBeOpen (lineOf (a .book) (a .line)) ∷ []) (must (leb 12 (a .space)) ROOM ∷ []) refl (c .before .before .before .open-line-verdict .ensures) (c .before .enum-told .given .1) (simp (le-leb _ _ (c .if1 .taken)))
+returns-2 c = let a = c .before .before .before .before .args in goes-on (fitBook (a .book) ∷ lineNumber (a .line) ∷ mustBeOpen (lineOf (a .book) (a .line)) ∷ []) (must (leb slipLength (a .space)) ROOM ∷ []) refl (c .before .before .before .open-line-verdict .ensures) (c .before .enum-told .given .1) (simp (le-leb _ _ (c .if1 .taken)))
 
 returns-3 : tie.Need-returns-3
 unfolding closeOrder
-returns-3 c = let a = c .before .before .before .before .args in goes-on (fitBook (a .book) ∷ lineNumber (a .line) ∷ mustBeOpen (lineOf (a .book) (a .line)) ∷ []) (must (leb 12 (a .space)) ROOM ∷ []) refl (c .before .before .before .open-line-verdict .ensures) (c .before .enum-told .given .1) (simp (lt-leb _ _ (c .if1 .left)))
+returns-3 c = let a = c .before .before .before .before .args in goes-on (fitBook (a .book) ∷ lineNumber (a .line) ∷ mustBeOpen (lineOf (a .book) (a .line)) ∷ []) (must (leb slipLength (a .space)) ROOM ∷ []) refl (c .before .before .before .open-line-verdict .ensures) (c .before .enum-told .given .1) (simp (lt-leb _ _ (c .if1 .left)))
 
 pub may-close-spec : {M : Type 1} → statement M
 may-close-spec =

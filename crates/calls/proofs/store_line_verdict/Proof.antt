@@ -17,13 +17,13 @@ enum-told : tie.Need-enum-told
 enum-told c = search needs
 
 returns : tie.Need-returns
-returns c = let a = c .before .before .before .before .args in stops (fitBook (a .book) ∷ roomy (a .store) ∷ []) (lineNumber (a .line) ∷ []) refl (c .before .before .before .store-verdict .ensures) (c .before .earlier .given .1)
+returns c = let a = c .before .before .before .before .args in stops (fitBook (a .book) ∷ roomy (a .book) (a .store) ∷ []) (lineNumber (a .line) ∷ []) refl (c .before .before .before .store-verdict .ensures) (c .before .earlier .given .1)
 
 returns-2 : tie.Need-returns-2
-returns-2 c = let a = c .before .before .before .before .args in goes-on (fitBook (a .book) ∷ roomy (a .store) ∷ []) (lineNumber (a .line) ∷ []) refl (c .before .before .before .store-verdict .ensures) (c .before .enum-told .given .1) (simp (le-leb _ _ (c .if1 .taken)))
+returns-2 c = let a = c .before .before .before .before .args in goes-on (fitBook (a .book) ∷ roomy (a .book) (a .store) ∷ []) (lineNumber (a .line) ∷ []) refl (c .before .before .before .store-verdict .ensures) (c .before .enum-told .given .1) (simp (le-leb _ _ (c .if1 .taken)))
 
 returns-3 : tie.Need-returns-3
-returns-3 c = let a = c .before .before .before .before .args in goes-on (fitBook (a .book) ∷ roomy (a .store) ∷ []) (lineNumber (a .line) ∷ []) refl (c .before .before .before .store-verdict .ensures) (c .before .enum-told .given .1) (simp (lt-leb _ _ (c .if1 .left)))
+returns-3 c = let a = c .before .before .before .before .args in goes-on (fitBook (a .book) ∷ roomy (a .book) (a .store) ∷ []) (lineNumber (a .line) ∷ []) refl (c .before .before .before .store-verdict .ensures) (c .before .enum-told .given .1) (simp (lt-leb _ _ (c .if1 .left)))
 
 pub store-line-verdict-spec : {M : Type 1} → statement M
 store-line-verdict-spec =

@@ -1,5 +1,4 @@
-use Rattle.channel.specs.declared.Channel.{Channel}
-use mathlib.Core.Path.{sym, ap, _∙_}
+use mathlib.Core.Path.{sym, _∙_}
 use Rattle.ground.specs.Refusal.{verdict}
 use Rattle.ground.proofs.Verdicts.{verdict-on, verdict-stop}
 use Rattle.sending.specs.Sending.{takeTests}
@@ -19,15 +18,22 @@ enum-known-earlier c = search needs
 enum-told : tie.Need-enum-told
 enum-told c = search needs
 
+send-largest-requires : tie.Need-send-largest-requires
+send-largest-requires c κs = search needs
+
+cast-largest : tie.Need-cast-largest
+cast-largest c = search needs
+
 sending-requires : tie.Need-sending-requires
 sending-requires c κs = search needs
 
-of-requires : tie.Need-of-requires
-of-requires c κs = search needs
+send-window-requires : tie.Need-send-window-requires
+send-window-requires c κs = search needs
 
 may-take-requires : tie.Need-may-take-requires
 may-take-requires c κs =
-    rw (c .before .sending .ensures) (sending-ordered (c .before .before .before .before .before .before .args .l) (c .before .before .before .before .before .before .pre) (c .before .before .before .before .before .before .args .channel) (sym (c .before .before .before .before .before .channel-verdict .ensures) ∙ c .before .before .before .enum-told .given .1))
+    let a = c .before .before .before .before .before .before .before in
+    rw (c .before .sending .ensures) (sending-ordered (a .args .l) (a .pre) (a .args .channel) (sym (c .before .before .before .before .before .before .channel-verdict .ensures) ∙ c .before .before .before .before .enum-told .given .1))
 
 returns : tie.Need-returns
 unfolding takeCallTests
@@ -38,17 +44,17 @@ returns c =
 returns-2 : tie.Need-returns-2
 unfolding takeCallTests
 returns-2 c =
-    let l = c .before .before .before .before .before .before .before .args .l in
-    let channel = c .before .before .before .before .before .before .before .args .channel in
-    let w = ap (λ (k : Channel). k .window) (c .before .of .ensures) in
-    let e = verdict-on (relayChannelTests l channel) _ (sym (c .before .before .before .before .before .before .channel-verdict .ensures) ∙ c .before .before .before .before .enum-told .given .1) in
-    c .may-take .ensures ∙ (λ i. verdict (takeTests (w i) (c .before .before .sending .ensures i))) ∙ sym (e ∙ simp (c .before .before .before .if1 .taken))
+    let a = c .before .before .before .before .before .before .before .before .args in
+    let fits = rw (c .before .before .before .before .send-largest .ensures) at (c .before .before .before .if1 .taken) in
+    let e = verdict-on (relayChannelTests (a .l) (a .channel)) _ (sym (c .before .before .before .before .before .before .before .channel-verdict .ensures) ∙ c .before .before .before .before .before .enum-told .given .1) in
+    c .may-take .ensures ∙ (λ i. verdict (takeTests (c .before .send-window .ensures i) (c .before .before .sending .ensures i))) ∙ sym (e ∙ simp fits)
 
 returns-3 : tie.Need-returns-3
 unfolding takeCallTests
 returns-3 c =
-    let l = c .before .before .before .before .args .l in
-    sym (verdict-on (relayChannelTests l (c .before .before .before .before .args .channel)) _ (sym (c .before .before .before .channel-verdict .ensures) ∙ c .before .enum-told .given .1) ∙ simp (c .if1 .left))
+    let a = c .before .before .before .before .before .args in
+    let unfit = rw (c .before .send-largest .ensures) at (c .if1 .left) in
+    sym (verdict-on (relayChannelTests (a .l) (a .channel)) _ (sym (c .before .before .before .before .channel-verdict .ensures) ∙ c .before .before .enum-told .given .1) ∙ simp unfit)
 
 pub may-take-spec : {M : Type 1} → statement M
 may-take-spec =
@@ -57,8 +63,10 @@ may-take-spec =
     channel-verdict-requires
     enum-known-earlier
     enum-told
+    send-largest-requires
+    cast-largest
     sending-requires
-    of-requires
+    send-window-requires
     may-take-requires
     returns
     returns-2

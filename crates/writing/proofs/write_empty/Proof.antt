@@ -12,6 +12,12 @@ head-for-requires c κs = search needs
 acks-for-requires : tie.Need-acks-for-requires
 acks-for-requires c κs = search needs
 
+send-largest-requires : tie.Need-send-largest-requires
+send-largest-requires c κs = search needs
+
+cast-largest : tie.Need-cast-largest
+cast-largest c = search needs
+
 array-share-prefix-none : tie.Need-array-share-prefix-none
 array-share-prefix-none c = search needs
 
@@ -23,7 +29,7 @@ write-packet-requires c κs = search needs
 
 wrote-line-requires : tie.Need-wrote-line-requires
 wrote-line-requires c κs =
-    let a = c .before .before .before .before .before .before .before .before in
+    let a = c .before .before .before .before .before .before .before .before .before in
     empty-owes (a .args .l) (a .pre .0) (a .args .channel) (length (now (a .args .out))) (a .pre .1)
 
 same-length : tie.Need-same-length
@@ -32,8 +38,8 @@ same-length c = search needs
 returns : tie.Need-returns
 unfolding emptyPacket
 returns c =
-    let a = c .before .before .before .before .before .before .before .before .before in
-    let w = rw (c .before .before .before .before .before .before .before .head-for .ensures, c .before .before .before .before .before .before .acks-for .ensures) at (c .before .before .before .write-packet .ensures) in
+    let a = c .before .before .before .before .before .before .before .before .before .before in
+    let w = rw (c .before .before .before .before .before .before .before .before .head-for .ensures, c .before .before .before .before .before .before .before .acks-for .ensures, c .before .before .before .before .before .before .send-largest .ensures) at (c .before .before .before .write-packet .ensures) in
     let p = written-out w (empty-passes (a .args .l) (a .pre .0) (a .args .channel) (length (now (a .args .out))) (a .pre .1)) in
     (c .wrote-line .ensures, p .0, p .1)
 
@@ -43,6 +49,8 @@ write-empty-spec =
     (tie.spec
     head-for-requires
     acks-for-requires
+    send-largest-requires
+    cast-largest
     array-share-prefix-none
     slice-aggregate-write-packet
     write-packet-requires

@@ -3,7 +3,6 @@ use Rattle.arriving.specs.Effect.{heardLine}
 use Rattle.line.specs.Line.{withSending}
 use Rattle.sending.specs.Sending.{heardBase}
 use Rattle.sending.specs.declared.Sending.{Sending}
-use Rattle.channel.specs.declared.Channel.{Channel}
 use mathlib.Core.Path.{ap, _∙_}
 use borrow.Author.Needs.{needs}
 use Rattle.arriving.proofs.effect.base_heard.Statement.{statement}
@@ -12,13 +11,13 @@ use Rattle.arriving.proofs.effect.base_heard.Tie as tie
 sending-requires : tie.Need-sending-requires
 sending-requires c κs = search needs
 
-of-requires : tie.Need-of-requires
-of-requires c κs = search needs
+send-window-requires : tie.Need-send-window-requires
+send-window-requires c κs = search needs
 
 heard-base-requires : tie.Need-heard-base-requires
 heard-base-requires c κs =
     let a = c .before .before .before in
-    rw (ap (λ (k : Channel). k .window) (c .of .ensures), c .before .sending .ensures) (sending-steps (a .args .l) (a .pre) (a .args .channel))
+    rw (c .send-window .ensures, c .before .sending .ensures) (sending-steps (a .args .l) (a .pre) (a .args .channel))
 
 with-sending-requires : tie.Need-with-sending-requires
 with-sending-requires c κs = search needs
@@ -27,7 +26,7 @@ returns : tie.Need-returns
 unfolding heardLine
 returns c =
     let a = c .before .before .before .before .before .args in
-    let w = ap (λ (k : Channel). k .window) (c .before .before .of .ensures) in
+    let w = c .before .before .send-window .ensures in
     let t = c .before .heard-base .ensures ∙ (λ i. heardBase (w i) (c .before .before .before .sending .ensures i) (a .base)) in
     simp (c .before .before .before .before .if1 .taken) (c .with-sending .ensures ∙ ap (λ (k : Sending). withSending (a .l) (a .channel) k) t)
 
@@ -40,7 +39,7 @@ base-heard-spec =
     tie.close
     (tie.spec
     sending-requires
-    of-requires
+    send-window-requires
     heard-base-requires
     with-sending-requires
     returns

@@ -18,14 +18,14 @@ enum-known-earlier c = search needs
 enum-told : tie.Need-enum-told
 enum-told c = search needs
 
-may-arrive-at-requires : tie.Need-may-arrive-at-requires
-may-arrive-at-requires c κs = search needs
+may-arrive-by-requires : tie.Need-may-arrive-by-requires
+may-arrive-by-requires c κs = search needs
 
 returns : tie.Need-returns
-returns c = let a = c .before .before .before .before .before .args in ap (arrives (a .book) (now (a .s))) (stops (fitBook (a .book) ∷ roomy (a .store) ∷ []) (arrivalTests (a .book) (now (a .s))) (arrive-parts (a .book) (a .store) (now (a .s))) (c .before .before .before .store-verdict .ensures) (c .before .earlier .given .1))
+returns c = let a = c .before .before .before .before .before .args in ap (arrives (a .book) (now (a .s))) (stops (fitBook (a .book) ∷ roomy (a .book) (a .store) ∷ []) (arrivalTests (a .book) (now (a .s))) (arrive-parts (a .book) (a .store) (now (a .s))) (c .before .before .before .store-verdict .ensures) (c .before .earlier .given .1))
 
 returns-2 : tie.Need-returns-2
-returns-2 c = let a = c .before .before .before .before .before .args in c .may-arrive-at .ensures ∙ ap (arrives (a .book) (now (a .s))) (goes-on (fitBook (a .book) ∷ roomy (a .store) ∷ []) (arrivalTests (a .book) (now (a .s))) (arrive-parts (a .book) (a .store) (now (a .s))) (c .before .before .before .store-verdict .ensures) (c .before .enum-told .given .1) refl)
+returns-2 c = let a = c .before .before .before .before .before .args in c .may-arrive-by .ensures ∙ ap (arrives (a .book) (now (a .s))) (goes-on (fitBook (a .book) ∷ roomy (a .book) (a .store) ∷ []) (arrivalTests (a .book) (now (a .s))) (arrive-parts (a .book) (a .store) (now (a .s))) (c .before .before .before .store-verdict .ensures) (c .before .enum-told .given .1) refl)
 
 pub may-arrive-spec : {M : Type 1} → statement M
 may-arrive-spec =
@@ -34,6 +34,6 @@ may-arrive-spec =
     store-verdict-requires
     enum-known-earlier
     enum-told
-    may-arrive-at-requires
+    may-arrive-by-requires
     returns
     returns-2)

@@ -17,20 +17,20 @@ settings-fit-requires c κs = search needs
 fits-requires : tie.Need-fits-requires
 fits-requires c κs = search needs
 
+sending-fits-requires : tie.Need-sending-fits-requires
+sending-fits-requires c κs = search needs
+
+sending-fits-requires-2 : tie.Need-sending-fits-requires-2
+sending-fits-requires-2 c κs = search needs
+
+receiving-fits-requires : tie.Need-receiving-fits-requires
+receiving-fits-requires c κs = search needs
+
+receiving-fits-requires-2 : tie.Need-receiving-fits-requires-2
+receiving-fits-requires-2 c κs = search needs
+
 fits-requires-2 : tie.Need-fits-requires-2
 fits-requires-2 c κs = search needs
-
-fits-requires-3 : tie.Need-fits-requires-3
-fits-requires-3 c κs = search needs
-
-fits-requires-4 : tie.Need-fits-requires-4
-fits-requires-4 c κs = search needs
-
-fits-requires-5 : tie.Need-fits-requires-5
-fits-requires-5 c κs = search needs
-
-fits-requires-6 : tie.Need-fits-requires-6
-fits-requires-6 c κs = search needs
 
 idle-requires : tie.Need-idle-requires
 idle-requires c κs = search needs
@@ -40,7 +40,7 @@ unfolding lineFits
 returns-2 c =
     let l = c .before .before .before .before .before .before .before .before .before .before .before .args .self in
     simp (eq-eqb _ _ (c .before .before .before .before .before .before .before .before .before .if1 .left))
-    (λ i. c .before .before .before .before .before .before .before .before .settings-fit .ensures i && c .before .before .before .before .before .before .before .fits2 .ensures i && c .before .before .before .before .before .before .fits3 .ensures i && c .before .before .before .before .before .fits4 .ensures i && c .before .before .before .before .fits5 .ensures i && c .before .before .before .fits6 .ensures i && c .before .before .fits7 .ensures i && (eqb (l .modes .local) modem || c .before .idle .ensures i))
+    (λ i. c .before .before .before .before .before .before .before .before .settings-fit .ensures i && c .before .before .before .before .before .before .before .fits2 .ensures i && c .before .before .before .before .before .before .sending-fits .ensures i && c .before .before .before .before .before .sending-fits2 .ensures i && c .before .before .before .before .receiving-fits .ensures i && c .before .before .before .receiving-fits2 .ensures i && c .before .before .fits3 .ensures i && (eqb (l .modes .local) modem || c .before .idle .ensures i))
 
 pub fits-spec : {M : Type 1} → statement M
 fits-spec =
@@ -49,10 +49,10 @@ fits-spec =
     returns
     settings-fit-requires
     fits-requires
+    sending-fits-requires
+    sending-fits-requires-2
+    receiving-fits-requires
+    receiving-fits-requires-2
     fits-requires-2
-    fits-requires-3
-    fits-requires-4
-    fits-requires-5
-    fits-requires-6
     idle-requires
     returns-2)

@@ -10,7 +10,6 @@ use mathlib.Core.Path.{_≡_, refl, sym, ap₂, _∙_}
 use lib.ListN.{length, getD, set, take, drop, length-set, length-drop}
 use lib.Seq.{paste, paste-zero, paste-suc, getD-drop}
 use denote.Ref.{now}
-use Rattle.store.proofs.Slots.{slot-end}
 
 abbrev Inv-loop : tie.InvT-loop
 Inv-loop store place size out₀ from i₀ out i = (i ≤ size) × (length out ≡ length out₀) × (out ≡ paste out₀ 0 (drop from store) i)
@@ -22,12 +21,12 @@ abbrev μ-loop : tie.MeasureT-loop
 in-room : (c : tie.After-slot Inv-loop μ-loop) → let a = c .before .before .before .args in c .slot .result + a .size ≤ length (now (a .store))
 in-room c =
     let s = c .before .before .before in
-    omega (arith, c .slot .ensures, slot-end (s .args .self) (s .args .place) (s .pre .0 .placed), s .pre .0 .inside, s .pre .1)
+    omega (arith, c .slot .ensures, s .pre .0 .inside, s .pre .1)
 
 slot-requires : tie.Need-slot-requires Inv-loop μ-loop
 slot-requires c κs =
     let s = c .before .before in
-    omega (arith, slot-end (s .args .self) (s .args .place) (s .pre .0 .placed), s .pre .0 .inside)
+    omega (arith, s .pre .0 .inside)
 
 loop-holds : tie.Need-loop-holds Inv-loop μ-loop
 loop-holds c =

@@ -9,7 +9,6 @@ use mathlib.Core.Path.{_≡_, refl, sym, ap, _∙_}
 use lib.ListN.{length, take, drop, length-set}
 use lib.Seq.{paste, paste-zero, paste-suc, sets, sets-eq, take-length}
 use denote.Ref.{now}
-use Rattle.store.proofs.Slots.{slot-end}
 
 abbrev Inv-loop : tie.InvT-loop
 Inv-loop store₀ place message at i₀ store i = (i ≤ length message) × (length store ≡ length store₀) × (store ≡ paste store₀ at message i)
@@ -22,12 +21,12 @@ in-room : (c : tie.After-slot Inv-loop μ-loop) → let a = c .before .before .b
     (now (a .message)) ≤ length (now (a .store))
 in-room c =
     let s = c .before .before .before in
-    omega (arith, c .slot .ensures, slot-end (s .args .self) (s .args .place) (s .pre .0 .placed), s .pre .0 .inside, s .pre .1)
+    omega (arith, c .slot .ensures, s .pre .0 .inside, s .pre .1)
 
 slot-requires : tie.Need-slot-requires Inv-loop μ-loop
 slot-requires c κs =
     let s = c .before .before in
-    omega (arith, slot-end (s .args .self) (s .args .place) (s .pre .0 .placed), s .pre .0 .inside)
+    omega (arith, s .pre .0 .inside)
 
 loop-holds : tie.Need-loop-holds Inv-loop μ-loop
 loop-holds c =

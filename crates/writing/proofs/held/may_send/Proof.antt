@@ -1,11 +1,10 @@
-use mathlib.Core.Path.{_≡_, sym, ap, _∙_}
+use mathlib.Core.Path.{_≡_, sym, _∙_}
 use Rattle.ground.specs.declared.Verdict.the-variants.{Pass}
 use Rattle.ground.specs.Refusal.{verdict}
 use Rattle.relay.specs.RelayTests.{relayChannelTests}
 use Rattle.writing.specs.Send.{ranked}
 use native.Mathlib.Omega.{arith}
 use Rattle.sending.specs.Sending.{heldOf}
-use Rattle.channel.specs.declared.Channel.{Channel}
 use Rattle.relay.proofs.Lines.{sending-steps}
 use Rattle.writing.proofs.Sends.{send-refused, send-nothing, send-room, send-may}
 use Rattle.writing.proofs.Packets.{acks-few}
@@ -22,8 +21,8 @@ enum-known-earlier c = search needs
 enum-told : tie.Need-enum-told
 enum-told c = search needs
 
-of-requires : tie.Need-of-requires
-of-requires c κs = search needs
+send-window-requires : tie.Need-send-window-requires
+send-window-requires c κs = search needs
 
 -- line and channel do not refuse
 asked-first : (c : tie.After-enum-told) → verdict (relayChannelTests (c .before .before .before .args .l) (c .before .before .before .args .channel)) ≡ Pass
@@ -32,7 +31,7 @@ asked-first c = sym (c .before .before .channel-verdict .ensures) ∙ c .enum-to
 -- what the rank finds
 found-is : (c : tie.After-ranked) → ranked (c .before .before .before .before .before .before .args .l) (c .before .before .before .before .before .before .args .channel) (c .before .before .before .before .before .before .args .rank) ≡ c .ranked .result
 found-is c =
-    let w = ap (λ (k : Channel). k .window) (c .before .before .of .ensures) in
+    let w = c .before .before .send-window .ensures in
     sym (c .ranked .ensures ∙ (λ i. heldOf (w i) (c .before .sending .ensures i) (c .before .before .before .before .before .before .args .rank)))
 
 sending-requires : tie.Need-sending-requires
@@ -41,7 +40,7 @@ sending-requires c κs = search needs
 ranked-requires : tie.Need-ranked-requires
 ranked-requires c κs =
     let a = c .before .before .before .before .before in
-    let w = ap (λ (k : Channel). k .window) (c .before .of .ensures) in
+    let w = c .before .send-window .ensures in
     rw (w, c .sending .ensures) (sending-steps (a .args .l) (a .pre) (a .args .channel) (asked-first (c .before .before)))
 
 enum-told-2 : tie.Need-enum-told-2
@@ -86,7 +85,7 @@ may-send-spec =
     channel-verdict-requires
     enum-known-earlier
     enum-told
-    of-requires
+    send-window-requires
     sending-requires
     ranked-requires
     enum-told-2
