@@ -62,7 +62,7 @@ carried() {
     ran "$name" "$log/other" "$second/carry2" "$@"
     same "$name"
     case $3 in
-    carry | check) count=$1 ;;
+    carry | check | bare) count=$1 ;;
     esac
     grep -q "^carried $count of $1 messages of $2 octets, " "$log/one" || fail "$name: $(cat "$log/one")"
 }

@@ -1,5 +1,6 @@
 // A gateway's book, by value: four lines (RULES 1.1), and the identifiers of the last sixteen that were closed (RULES 7.6). Here is what
-// BOOK asks of it (RULES 13.18), how a packet's line is found (RULES 4.1), and what a line's closing leaves (RULES 7.5). What the other
+// BOOK asks of it (RULES 13.18), how a packet's line is found (RULES 4.1), what a line's closing leaves (RULES 7.5), and where each line's
+// part of the store begins (RULES 6.4). What the other
 // calls do to a line is in `line`, `relay`, `writing` and `arriving`.
 ghost use mathlib.Core.Path.{_≡_};
 ghost use mathlib.Core.Bool.{true};

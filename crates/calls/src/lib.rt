@@ -1,6 +1,6 @@
 // The order of refusals: RULES section 14. Each function here is a verdict on a book: what every call asks
 // first, all that opening and closing ask before they make their effect, and of the mode calls what they ask of the book, up to
-// NOLINE; CLOCK to MODE are asked in `mode`. Which calls there are and what each does is defined in specs/, beside the order, specs/Order.antt.
+// NOLINE; CLOCK to MODE are asked in `moves`. Which calls there are and what each does is defined in specs/, beside the order, specs/Order.antt.
 // Of the store and of the output only the length counts.
 ghost use mathlib.Core.Path.{_≡_};
 ghost use Prim.Native.Nat.{_≤_, _<_};

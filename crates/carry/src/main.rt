@@ -249,12 +249,11 @@ fn carry(count: u64, run: Run, a: &mut [u8; 42240], b: &mut [u8; 42240], counts:
     }
 }
 
-// The program's own work for the message of a number.
+// The program's own work for the message of a number: it is made, and judged as if it had come.
 fn without_calls(number: u64, size: usize, counts: &mut [u64; 3]) {
     let mut message = [0u8; 132];
     fill(&mut message, number);
-    let out = [0u8; 132];
-    judge(&out, WriteAnswer::Wrote(0), number, size, counts);
+    judge(&message, WriteAnswer::Wrote(size), number, size, counts);
 }
 
 // Does the program's own work for that many messages.

@@ -1,4 +1,4 @@
-// The gateway: every call on a book of four lines. A caller keeps the book by value, lends a store of at least 42,240 octets
+// The gateway: every call on a book of four lines. A caller keeps the book by value, lends a store of at least `Book::STORE` octets
 // and an output where a call needs them, and gets back the book as the call leaves it, with the answer.
 //
 // Every call accepts every book, store, packet, message, setting and time, ends, and answers what document 01 says: a refusal

@@ -9,7 +9,7 @@ use Rattle.store.specs.Store.{slotAt, SlotIn}
 use Rattle.store.specs.declared.Region.{Region}
 use Rattle.store.specs.declared.Way.{Way}
 use Rattle.store.specs.declared.Way.the-variants.{Sending, Receiving}
-use Rattle.store.proofs.Slots.{room-next, Before, first-end, second-end}
+use Rattle.store.proofs.Slots.{slot-next, Before, first-end, second-end}
 use Rattle.line.specs.Part.{slotCount, slotSize, wayLength, partLength, wayStart, regionOf}
 use Rattle.line.specs.declared.Line.{Line}
 
@@ -76,7 +76,7 @@ module _ (l : Line) where
 
   -- so the slot of a place is in any part that is long enough
   pub slot-there : (x : Owner) → Served x → (p n : ℕ) → p < slots x → partLength l ≤ n → SlotIn (region x) p n
-  slot-there x s p n a r = record { inside = omega (arith, room-next (region x) p (slots x) a, region-end x s) }
+  slot-there x s p n a r = record { inside = omega (arith, slot-next (region x) p (slots x) a, region-end x s) }
 
   -- regions of two ways or of two channels
   abbrev Clear : Owner → Owner → Type 0

@@ -1,6 +1,6 @@
 // One line's record, by value: its settings, its modes, two sending and two receiving sides, and what it owes.
-// Here is what opening (RULES 7.3), closing (RULES 7.5) and a change of mode (RULES 9.12, RULES 9.14) make of it, and what BOOK asks of
-// it. Relay calls are in `relay`, `writing` and `arriving`, books in `book`, octets in `store`, the order of refusals in `calls`.
+// Here is what opening (RULES 7.3), closing (RULES 7.5) and a change of mode (RULES 9.12, RULES 9.14) make of it, what BOOK asks of
+// it, the figures that its calls go by (RULES 3.2, RULES 3.4), and where the slots lie in its part of the store (RULES 6.4). Relay calls are in `relay`, `writing` and `arriving`, books in `book`, octets in `store`, the order of refusals in `calls`.
 ghost use mathlib.Core.Path.{_≡_};
 ghost use Rattle.sending.specs.Sending.{sendingFits};
 ghost use Rattle.receiving.specs.Receiving.{receivingFits};
@@ -148,10 +148,10 @@ impl Line {
 
 // The figures of a line, which every call on it goes by. All lines have the same.
 impl Line {
-    // How many octets the slots of the messages have that a line sends: 40 of 132.
+    // How many octets the slots for sending have: 40 of 132.
     const SENT: usize = 5280;
 
-    // And with those that it receives, which is its part of the store.
+    // How many octets a line's part of the store has: those, and as many for receiving.
     pub const PART: usize = 10560;
 
     // How many messages of a channel may be under way: those that it sends.
@@ -195,12 +195,12 @@ impl Line {
     {
         match way {
             Way::Sending => {
-                let places = self.send_window(1);
-                Region::from(0, places, self.send_largest() as usize, channel)
+                let slots = self.send_window(1);
+                Region::from(0, slots, self.send_largest() as usize, channel)
             }
             Way::Receiving => {
-                let places = self.receive_window(1);
-                Region::from(Line::SENT, places, self.receive_largest() as usize, channel)
+                let slots = self.receive_window(1);
+                Region::from(Line::SENT, slots, self.receive_largest() as usize, channel)
             }
         }
     }

@@ -35,7 +35,7 @@ pub enum Channels {
     Stay,
     // m was entered: both start fresh.
     Fresh,
-    // m was left: stores and owed list are emptied; counts stay.
+    // m was left: nothing is held, stored or owed any more; counts stay.
     Emptied,
 }
 

@@ -106,22 +106,22 @@ wrote-joined {e} k opened inside says j =
     }
 
 -- what is written reads back
-module _ (e : End) (k : Whole e) (channel number slot : ℕ) (payload : List ℕ) where
+module _ (e : End) (k : Whole e) (channel number space : ℕ) (payload : List ℕ) where
   abbrev h : Head
   h = headFor (e .line) channel number
 
   abbrev written : List ℕ
   written = packetOctets h (acksFor (e .line)) payload
 
-  pub written-says : (carried named : List Mark) → verdict (writeTests h (acksFor (e .line)) payload largest slot) ≡ Pass → Names (got e) channel (baseFor (e .line) channel) named
+  pub written-says : (carried named : List Mark) → verdict (writeTests h (acksFor (e .line)) payload largest space) ≡ Pass → Names (got e) channel (baseFor (e .line) channel) named
       → Carries (e .past .taken) channel number payload carried → Says e (record { octets = written; carries = carried; names = named; acks = take 3 (e .past .owes) })
   written-says carried named pass base load =
-      let r = packet-says h (acksFor (e .line)) payload largest slot pass in
+      let r = packet-says h (acksFor (e .line)) payload largest space pass in
       let d : headAt written ≡ h = r .head-back in
       record {
         plain = r .plain;
         listed = r .listed;
-        sized = size-round h (acksFor (e .line)) payload largest slot pass;
+        sized = size-round h (acksFor (e .line)) payload largest space pass;
         named = ap (λ (x : Head). x .identifier) d;
         typed = ap (λ (x : Head). x .kind) d;
         words = ap ackList (r .acks-back) ∙ first-three (e .line) ∙ ap (take 3) (k .owed) ∙ take-map markWord 3 (e .past .owes);
@@ -136,7 +136,7 @@ unfolding baseFor
 base-of l channel v = let c = channel-span channel v in rw (ne-eqb channel 0 (λ e. omega (arith, c)))
 
 -- "Empty packet": it names the writer's base, on channel 0 none
-module _ {e f : End} (channel slot : ℕ) (pass : verdict (emptyTests (e .line) channel slot) ≡ Pass) (j : Joined e f) where
+module _ {e f : End} (channel space : ℕ) (pass : verdict (emptyTests (e .line) channel space) ≡ Pass) (j : Joined e f) where
   base-names : (c : ℕ) → c ≤ 2 → Names (got e) c (baseFor (e .line) c) (pick (eqb c 0) [] (mark c (receivingOf (e .line) c .next) ∷ []))
   unfolding baseFor
   base-names zero q = nothing refl
@@ -147,33 +147,33 @@ module _ {e f : End} (channel slot : ℕ) (pass : verdict (emptyTests (e .line) 
   pub empty-says : Says e (emptyBy e channel)
   unfolding emptyTests emptyPacket
   empty-says =
-      let t = passed (emptyTests (e .line) channel slot) pass in
-      written-says e (j .mine) channel 0 slot [] [] (pick (eqb channel 0) [] (mark channel (receivingOf (e .line) channel .next) ∷ []))
-      (empty-passes (e .line) (j .mine .fits) channel slot pass) (base-names channel (leb-true _ _ (t .1 .1 .0))) (nothing refl)
+      let t = passed (emptyTests (e .line) channel space) pass in
+      written-says e (j .mine) channel 0 space [] [] (pick (eqb channel 0) [] (mark channel (receivingOf (e .line) channel .next) ∷ []))
+      (empty-passes (e .line) (j .mine .fits) channel space pass) (base-names channel (leb-true _ _ (t .1 .1 .0))) (nothing refl)
 
   pub empty-joined : Joined (afterWriting e (emptyBy e channel)) f
   unfolding emptyTests
   empty-joined =
-      let t = passed (emptyTests (e .line) channel slot) pass in
+      let t = passed (emptyTests (e .line) channel space) pass in
       wrote-joined (emptyBy e channel) (t .0) (eqb-true _ _ (t .1 .0)) empty-says j
 
 -- "A held message is written by its rank": it is the one taken under its number
-module _ {e f : End} (channel rank slot : ℕ) (pass : verdict (sendTests (e .line) channel rank slot) ≡ Pass) (j : Joined e f) where
+module _ {e f : End} (channel rank space : ℕ) (pass : verdict (sendTests (e .line) channel rank space) ≡ Pass) (j : Joined e f) where
   abbrev l : Line
   l = e .line
 
   abbrev held : Held
   held = heldIn (ranked l channel rank)
 
-  says-may : sendVerdict l channel rank slot ≡ may.Message held
+  says-may : sendVerdict l channel rank space ≡ may.Message held
   unfolding sendVerdict
   says-may = ap (λ (v : Verdict). settle v may.Refused (may.Message held)) pass
 
-  able : Sendable l channel slot held
-  able = may-sendable l channel rank slot (j .mine .fits) says-may
+  able : Sendable l channel space held
+  able = may-sendable l channel rank space (j .mine .fits) says-may
 
   v : reliable channel ≡ true
-  v = send-reliable l (j .mine .fits) channel slot held able
+  v = send-reliable l (j .mine .fits) channel space held able
 
   abbrev w : ℕ
   w = sendWindow l channel
@@ -189,7 +189,7 @@ module _ {e f : End} (channel rank slot : ℕ) (pass : verdict (sendTests (e .li
 
   found : isHeld (ranked l channel rank) ≡ true
   unfolding sendTests relayChannelTests
-  found = passed (sendTests l channel rank slot) pass .1 .1 .1 .0
+  found = passed (sendTests l channel rank space) pass .1 .1 .1 .0
 
   held-data : (p : Place) → rankOf (maskOf (s .unacked)) rank ≡ p → isHeld (heldAt w s p) ≡ true
       → Data (e .past .taken channel) (heldIn (heldAt w s p) .number) (octetsIn (e .part) region (heldIn (heldAt w s p) .place) (heldIn (heldAt w s p) .size))
@@ -215,9 +215,9 @@ module _ {e f : End} (channel rank slot : ℕ) (pass : verdict (sendTests (e .li
   pub held-says : Says e (heldBy e channel rank)
   unfolding heldPacket heldOf
   held-says =
-      written-says e (j .mine) channel (held .number % modulus) slot (octetsIn (e .part) region (held .place) (held .size)) (mark channel (held .number) ∷ [])
+      written-says e (j .mine) channel (held .number % modulus) space (octetsIn (e .part) region (held .place) (held .size)) (mark channel (held .number) ∷ [])
       (mark channel (receivingOf l channel .next) ∷ [])
-      (send-passes l (j .mine .fits) channel slot held able (e .part) (j .mine .long))
+      (send-passes l (j .mine .fits) channel space held able (e .part) (j .mine .long))
       (reached (receivingOf l channel .next) v base-is (omega arith))
       (message (held .number) v refl (held-data (rankOf (maskOf (s .unacked)) rank) refl found))
     where

@@ -98,7 +98,7 @@ afterHanding e channel =
       past = handedPast (e .past) channel (handedOctets (e .line) channel (e .part));
     }
 
-module _ {e f : End} (channel slot : ℕ) (pass : verdict (handCallTests (e .line) channel slot) ≡ Pass) (j : Joined e f) where
+module _ {e f : End} (channel space : ℕ) (pass : verdict (handCallTests (e .line) channel space) ≡ Pass) (j : Joined e f) where
   abbrev l : Line
   l = e .line
 
@@ -109,17 +109,17 @@ module _ {e f : End} (channel slot : ℕ) (pass : verdict (handCallTests (e .lin
   r = receivingOf l channel
 
   v : reliable channel ≡ true
-  v = hand-reliable l (k .fits) channel slot pass
+  v = hand-reliable l (k .fits) channel space pass
 
   there : bitOf (maskOf (r .stored)) 0 ≡ true
-  there = passed (handTests r) (hand-side l (k .fits) channel slot pass) .1 .0
+  there = passed (handTests r) (hand-side l (k .fits) channel space pass) .1 .0
 
   -- the octets that are handed out are those of message R
   octets : take (nextSize r) (slotsOf l (e .part) way.Receiving channel (r .origin)) ≡ handedOctets l channel (e .part)
   octets =
       let s = region-end l (record { way = way.Receiving; channel = channel }) (owner-served way.Receiving channel v) in
       slot-front (e .part) (regionOf l way.Receiving channel) (slotCount l way.Receiving channel) (omega (arith, s, k .long)) (r .origin) (nextSize r)
-      (hand-size l (k .fits) channel slot pass)
+      (hand-size l (k .fits) channel space pass)
 
   pub handed-is : got e channel .stored (r .next) ≡ handedOctets l channel (e .part)
   handed-is = next-message (receiveWindow l channel) (slotsOf l (e .part) way.Receiving channel) r (gets-ok (k .sides) channel .placed) there ∙ octets
@@ -133,10 +133,10 @@ module _ {e f : End} (channel slot : ℕ) (pass : verdict (handCallTests (e .lin
   pub hand-joined : Joined (afterHanding e channel) f
   hand-joined =
       let w = receiveWindow l channel in
-      let o = asked-open l channel (hand-asked l (k .fits) channel slot pass) in
+      let o = asked-open l channel (hand-asked l (k .fits) channel space pass) in
       let slots = slotsOf l (e .part) way.Receiving channel in
       receiving-joined j channel (handedLine l channel) (e .part) (more (e .past .handed) channel (handedOctets l channel (e .part))) (e .past .owes) (e .past .came)
-      (o .0) (o .1) (handed-line-same l channel) (handed-line-keeps l channel slot (k .fits) (k .shaped) pass) (k .long)
+      (o .0) (o .1) (handed-line-same l channel) (handed-line-keeps l channel space (k .fits) (k .shaped) pass) (k .long)
       (λ c. refl) (λ c u d. receiving-other l channel c v u d (handedOut w r)) (λ c u p q. refl) (λ c u d p q. refl)
       (more-other (e .past .handed) channel (handedOctets l channel (e .part)))
       (k .owed)

@@ -118,16 +118,16 @@ module _ (l : Line) (fits : lineFits l ≡ true) (channel n : ℕ) (pass : verdi
   take-place = place-lt (sendWindow l channel) (sendingOf l channel .origin) (underWay (sendingOf l channel)) (take-steps .placed) (omega (arith, take-window))
 
 -- all tests before a message is handed out pass
-module _ (l : Line) (fits : lineFits l ≡ true) (channel slot : ℕ) (pass : verdict (handCallTests l channel slot) ≡ Pass) where
+module _ (l : Line) (fits : lineFits l ≡ true) (channel space : ℕ) (pass : verdict (handCallTests l channel space) ≡ Pass) where
   abbrev side : Receiving
   side = receivingOf l channel
 
-  asked-first : (verdict (relayChannelTests l channel) ≡ Pass) × (verdict (handTests side ++ (must (leb (nextSize side) slot) ROOM ∷ [])) ≡ Pass)
+  asked-first : (verdict (relayChannelTests l channel) ≡ Pass) × (verdict (handTests side ++ (must (leb (nextSize side) space) ROOM ∷ [])) ≡ Pass)
   unfolding handCallTests
-  asked-first = pass-both (relayChannelTests l channel) (handTests side ++ (must (leb (nextSize side) slot) ROOM ∷ [])) pass
+  asked-first = pass-both (relayChannelTests l channel) (handTests side ++ (must (leb (nextSize side) space) ROOM ∷ [])) pass
 
-  then-side : (verdict (handTests side) ≡ Pass) × (verdict (must (leb (nextSize side) slot) ROOM ∷ []) ≡ Pass)
-  then-side = pass-both (handTests side) (must (leb (nextSize side) slot) ROOM ∷ []) (asked-first .1)
+  then-side : (verdict (handTests side) ≡ Pass) × (verdict (must (leb (nextSize side) space) ROOM ∷ []) ≡ Pass)
+  then-side = pass-both (handTests side) (must (leb (nextSize side) space) ROOM ∷ []) (asked-first .1)
 
   pub hand-asked : verdict (relayChannelTests l channel) ≡ Pass
   hand-asked = asked-first .0
@@ -148,8 +148,8 @@ module _ (l : Line) (fits : lineFits l ≡ true) (channel slot : ℕ) (pass : ve
   pub hand-cap : receivingOf l channel .next < cap
   hand-cap = ltb-true _ _ (passed (handTests side) (then-side .0) .0)
 
-  pub hand-room : nextSize (receivingOf l channel) ≤ slot
-  hand-room = leb-true _ _ (passed (must (leb (nextSize side) slot) ROOM ∷ []) (then-side .1) .0)
+  pub hand-room : nextSize (receivingOf l channel) ≤ space
+  hand-room = leb-true _ _ (passed (must (leb (nextSize side) space) ROOM ∷ []) (then-side .1) .0)
 
   -- message R is stored, so its size is one that BOOK lets pass
   pub hand-size : nextSize (receivingOf l channel) ≤ receiveLargest l

@@ -1,6 +1,6 @@
 // What taking, handing out and the report refuse (RULES 14.3, RULES 14.5, RULES 14.7), and what they do to one line and to its
 // part of the store (RULES 5.1, RULES 5.8, RULES 5.10). Each call is a verdict, worked out first, and an effect, made only where the verdict
-// lets it pass. A verdict asks that the line meets what BOOK asks; `calls` tests the book and the store's length before that.
+// lets it pass. The verdicts of taking and handing out ask that the line meets what BOOK asks; `calls` tests the book and the store's length before that.
 ghost use mathlib.Core.Path.{_≡_};
 ghost use mathlib.Core.Bool.{true};
 ghost use Prim.Native.Nat.{_≤_, _<_};

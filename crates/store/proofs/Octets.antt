@@ -10,7 +10,7 @@ use lib.ListN.{length, take, drop, length-drop, take-append-drop}
 use lib.Seq.{sets, sets-eq, length-sets, take-append-le, drop-append-le, drop-at, drop-drop, drop-append-add, length-take-le, take-append-seam, take-take}
 use Rattle.store.specs.Store.{slotAt, SlotIn, octetsIn, slotOctets}
 use Rattle.store.specs.declared.Region.{Region}
-use Rattle.store.proofs.Slots.{Apart, Before, room-next, places-apart, regions-rooms}
+use Rattle.store.proofs.Slots.{Apart, Before, slot-next, places-apart, regions-slots}
 
 -- Octets x written into a list s from octet b on.
 module _ (s : List ℕ) (b : ℕ) (x : List ℕ) (fits : b + length x ≤ length s) where
@@ -66,23 +66,23 @@ module _ (s : List ℕ) (g : Region) (p : ℕ) (x : List ℕ) (r : SlotIn g p (l
 module _ (s : List ℕ) (g : Region) (v : ℕ) (inside : slotAt g v ≤ length s) where
   -- a slot has as many octets as the largest message
   pub slot-length : (q : ℕ) → q < v → length (slotOctets s g q) ≡ g .size
-  slot-length q l = length-take-le (g .size) (drop (slotAt g q) s) (omega (arith, room-next g q v l, length-drop (slotAt g q) s))
+  slot-length q l = length-take-le (g .size) (drop (slotAt g q) s) (omega (arith, slot-next g q v l, length-drop (slotAt g q) s))
 
   -- the first n of them
   pub slot-front : (q n : ℕ) → n ≤ g .size → take n (slotOctets s g q) ≡ octetsIn s g q n
   slot-front q n l = take-take n (g .size) (drop (slotAt g q) s) l
 
   module _ (p : ℕ) (x : List ℕ) (placed : p < v) (small : length x ≤ g .size) where
-    in-room : SlotIn g p (length s)
-    in-room = record { inside = omega (arith, room-next g p v placed) }
+    in-slot : SlotIn g p (length s)
+    in-slot = record { inside = omega (arith, slot-next g p v placed) }
 
     -- a message put into one of them lies at its front
     pub slot-put : take (length x) (slotOctets (sets s (slotAt g p) x) g p) ≡ x
-    slot-put = take-take (length x) (g .size) (drop (slotAt g p) (sets s (slotAt g p) x)) small ∙ put-same s g p x in-room small
+    slot-put = take-take (length x) (g .size) (drop (slotAt g p) (sets s (slotAt g p) x)) small ∙ put-same s g p x in-slot small
 
     -- and each other is as it was, in this region and in any other
     pub slot-kept : (q : ℕ) → q ≢ p → slotOctets (sets s (slotAt g p) x) g q ≡ slotOctets s g q
-    slot-kept q d = put-other s g p x in-room small g q (g .size) (le-refl (g .size)) (places-apart g p q (λ e. d (sym e)))
+    slot-kept q d = put-other s g p x in-slot small g q (g .size) (le-refl (g .size)) (places-apart g p q (λ e. d (sym e)))
 
     pub region-kept : (k : Region) (w : ℕ) → Before g v k ⊎ Before k w g → (q : ℕ) → q < w → slotOctets (sets s (slotAt g p) x) k q ≡ slotOctets s k q
-    region-kept k w a q l = put-other s g p x in-room small k q (k .size) (le-refl (k .size)) (regions-rooms g k v w p q placed l a)
+    region-kept k w a q l = put-other s g p x in-slot small k q (k .size) (le-refl (k .size)) (regions-slots g k v w p q placed l a)

@@ -10,8 +10,8 @@ use Rattle.store.specs.Store.{regionFrom, slotAt}
 use Rattle.store.specs.declared.Region.{Region}
 
 -- a place further on begins at least a slot's size further on
-pub room-next : (g : Region) (p q : ℕ) → p < q → slotAt g p + g .size ≤ slotAt g q
-room-next g p q l = omega (arith, suc-mul p (g .size), mul-le-mul-right (g .size) l)
+pub slot-next : (g : Region) (p q : ℕ) → p < q → slotAt g p + g .size ≤ slotAt g q
+slot-next g p q l = omega (arith, suc-mul p (g .size), mul-le-mul-right (g .size) l)
 
 -- n octets from b on and m octets from a on have none in common
 abbrev pub Apart : ℕ → ℕ → ℕ → ℕ → Type 0
@@ -22,16 +22,16 @@ pub places-apart : (g : Region) (p q : ℕ) → p ≢ q → Apart (slotAt g p) (
 places-apart g p q d = go (decLt p q)
   where
     go : Dec (p < q) → Apart (slotAt g p) (g .size) (slotAt g q) (g .size)
-    go (yes l) = inl (room-next g p q l)
-    go (no l) = inr (room-next g q p (omega arith))
+    go (yes l) = inl (slot-next g p q l)
+    go (no l) = inr (slot-next g q p (omega arith))
 
 -- the v slots of one region end before another begins
 abbrev pub Before : Region → ℕ → Region → Type 0
 Before g v k = slotAt g v ≤ k .start
 
 -- slots of two regions, of v and of w slots
-pub regions-rooms : (g k : Region) (v w p q : ℕ) → p < v → q < w → Before g v k ⊎ Before k w g → Apart (slotAt g p) (g .size) (slotAt k q) (k .size)
-regions-rooms g k v w p q a b = ⊎-elim (λ s. inl (omega (arith, room-next g p v a))) (λ s. inr (omega (arith, room-next k q w b)))
+pub regions-slots : (g k : Region) (v w p q : ℕ) → p < v → q < w → Before g v k ⊎ Before k w g → Apart (slotAt g p) (g .size) (slotAt k q) (k .size)
+regions-slots g k v w p q a b = ⊎-elim (λ s. inl (omega (arith, slot-next g p v a))) (λ s. inr (omega (arith, slot-next k q w b)))
 
 -- The slots of two channels, which have v and w of them: channel 2's begin where channel 1's end, and end v + w slots after the start.
 module _ (start v w size : ℕ) where

@@ -7,9 +7,9 @@ use lib.ListN.{take, drop}
 use Rattle.ground.specs.Pick.{pick}
 use Rattle.store.specs.declared.Region.{Region}
 
--- the slots of a channel among those of one way, which begin at `start`: channel 1 has `places` of them, and channel 2 those after (RULES 6.4)
+-- the slots of a channel among those of one way, which begin at `start`: channel 1 has `slots` of them, and channel 2 those after (RULES 6.4)
 abbrev pub regionFrom : ℕ → ℕ → ℕ → ℕ → Region
-regionFrom start places size channel = record { start = pick (eqb channel 1) start (start + places * size); size = size }
+regionFrom start slots size channel = record { start = pick (eqb channel 1) start (start + slots * size); size = size }
 
 -- the octet that the slot of a place begins at (RULES 6.4)
 abbrev pub slotAt : Region → ℕ → ℕ

@@ -22,16 +22,16 @@ pub struct Region {
 }
 
 impl Region {
-    // The slots of a channel among those of one way, which begin at `start`: channel 1 has `places` of them, and channel 2 those after.
-    pub fn from(start: usize, places: u32, size: usize, channel: u8) -> Region
-        requires { ⌜ start + places * size < 2 ^ 64 ⌝ }
-        ensures { λ r. ⌜ r ≡ regionFrom start places size channel ⌝ }
+    // The slots of a channel among those of one way, which begin at `start`: channel 1 has `slots` of them, and channel 2 those after.
+    pub fn from(start: usize, slots: u32, size: usize, channel: u8) -> Region
+        requires { ⌜ start + slots * size < 2 ^ 64 ⌝ }
+        ensures { λ r. ⌜ r ≡ regionFrom start slots size channel ⌝ }
     {
         if channel == 1 {
             return Region { start, size };
         }
         Region {
-            start: start + places as usize * size,
+            start: start + slots as usize * size,
             size,
         }
     }
@@ -45,27 +45,27 @@ impl Region {
     }
 
     // Puts a message into the slot of a place, from the slot's first octet on. All other octets stay.
-    pub fn put(self, store: &mut [u8], place: u32, message: &[u8])
-        requires { ⌜ SlotIn self place (length (now store)) × (length (now message) ≤ self .size) ⌝ }
-        ensures { λ _. ⌜ now (store .exit) ≡ sets (now (store .entry)) (slotAt self place) (now (message .entry)) ⌝ }
+    pub fn put(self, part: &mut [u8], place: u32, message: &[u8])
+        requires { ⌜ SlotIn self place (length (now part)) × (length (now message) ≤ self .size) ⌝ }
+        ensures { λ _. ⌜ now (part .exit) ≡ sets (now (part .entry)) (slotAt self place) (now (message .entry)) ⌝ }
     {
         let at = self.slot(place);
         let mut i = 0;
         while i < message.len() {
-            store[at + i] = message[i];
+            part[at + i] = message[i];
             i += 1;
         }
     }
 
     // Copies the first `size` octets in the slot of a place to the front of an output. The output's other octets stay.
-    pub fn copy_out(self, store: &[u8], place: u32, size: usize, out: &mut [u8])
-        requires { ⌜ SlotIn self place (length (now store)) × (size ≤ self .size) × (size ≤ length (now out)) ⌝ }
-        ensures { λ _. ⌜ now (out .exit) ≡ octetsIn (now (store .entry)) self place size ++ drop size (now (out .entry)) ⌝ }
+    pub fn copy_out(self, part: &[u8], place: u32, size: usize, out: &mut [u8])
+        requires { ⌜ SlotIn self place (length (now part)) × (size ≤ self .size) × (size ≤ length (now out)) ⌝ }
+        ensures { λ _. ⌜ now (out .exit) ≡ octetsIn (now (part .entry)) self place size ++ drop size (now (out .entry)) ⌝ }
     {
         let from = self.slot(place);
         let mut i = 0;
         while i < size {
-            out[i] = store[from + i];
+            out[i] = part[from + i];
             i += 1;
         }
     }

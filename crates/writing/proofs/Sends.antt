@@ -57,41 +57,41 @@ says-passed Pass k e = (refl, cc)
 says-passed (Refuse r) k e = absurd (let z : _≡_ {A = ℕ} 0 1 = cc in omega arith)
 
 -- Each answer to the call.
-module _ (l : Line) (channel rank slot : ℕ) where
+module _ (l : Line) (channel rank space : ℕ) where
   -- the tests of the message itself
   abbrev tested : Ranked → List Test
-  tested k = must (isHeld k) NOTHING ∷ must (leb (sentLength l (heldIn k)) slot) ROOM ∷ []
+  tested k = must (isHeld k) NOTHING ∷ must (leb (sentLength l (heldIn k)) space) ROOM ∷ []
 
   abbrev says : Verdict → Ranked → SendVerdict
   says v k = settle v Refused (Message (heldIn k))
 
   -- line or channel refuse
-  pub send-refused : {r : Refusal} → verdict (relayChannelTests l channel) ≡ Refuse r → sendVerdict l channel rank slot ≡ Refused r
+  pub send-refused : {r : Refusal} → verdict (relayChannelTests l channel) ≡ Refuse r → sendVerdict l channel rank space ≡ Refused r
   unfolding sendVerdict sendTests
   send-refused e = ap (λ (v : Verdict). says v (ranked l channel rank)) (verdict-stop (relayChannelTests l channel) (tested (ranked l channel rank)) e)
 
   module _ (asked : verdict (relayChannelTests l channel) ≡ Pass) where
-    then : sendVerdict l channel rank slot ≡ says (verdict (tested (ranked l channel rank))) (ranked l channel rank)
+    then : sendVerdict l channel rank space ≡ says (verdict (tested (ranked l channel rank))) (ranked l channel rank)
     unfolding sendVerdict sendTests
     then = ap (λ (v : Verdict). says v (ranked l channel rank)) (verdict-on (relayChannelTests l channel) (tested (ranked l channel rank)) asked)
 
     -- there is no message of that rank
-    pub send-nothing : ranked l channel rank ≡ Nothing → sendVerdict l channel rank slot ≡ Refused NOTHING
+    pub send-nothing : ranked l channel rank ≡ Nothing → sendVerdict l channel rank space ≡ Refused NOTHING
     send-nothing e = then ∙ ap (λ (k : Ranked). says (verdict (tested k)) k) e
 
     module _ {h : Held} (found : ranked l channel rank ≡ Is h) where
       -- there is one, and its packet has no room
-      pub send-room : slot < sentLength l h → sendVerdict l channel rank slot ≡ Refused ROOM
-      send-room q = then ∙ ap (λ (k : Ranked). says (verdict (tested k)) k) found ∙ rw (lt-leb (sentLength l h) slot q)
+      pub send-room : space < sentLength l h → sendVerdict l channel rank space ≡ Refused ROOM
+      send-room q = then ∙ ap (λ (k : Ranked). says (verdict (tested k)) k) found ∙ rw (lt-leb (sentLength l h) space q)
 
       -- or has it
-      pub send-may : sentLength l h ≤ slot → sendVerdict l channel rank slot ≡ Message h
-      send-may q = then ∙ ap (λ (k : Ranked). says (verdict (tested k)) k) found ∙ rw (le-leb (sentLength l h) slot q)
+      pub send-may : sentLength l h ≤ space → sendVerdict l channel rank space ≡ Message h
+      send-may q = then ∙ ap (λ (k : Ranked). says (verdict (tested k)) k) found ∙ rw (le-leb (sentLength l h) space q)
 
   -- and what an answer says of the tests
-  pub may-passed : {h : Held} → sendVerdict l channel rank slot ≡ Message h → (verdict (sendTests l channel rank slot) ≡ Pass) × (h ≡ heldIn (ranked l channel rank))
+  pub may-passed : {h : Held} → sendVerdict l channel rank space ≡ Message h → (verdict (sendTests l channel rank space) ≡ Pass) × (h ≡ heldIn (ranked l channel rank))
   unfolding sendVerdict
-  may-passed = says-passed (verdict (sendTests l channel rank slot)) (heldIn (ranked l channel rank))
+  may-passed = says-passed (verdict (sendTests l channel rank space)) (heldIn (ranked l channel rank))
 
 -- a message found by its rank lies at a place of the window and has a size that BOOK lets pass
 held-there : (w z : ℕ) (s : Sending) (rank : ℕ) → SendingOk w s → sendingFits w z s ≡ true → isHeld (heldOf w s rank) ≡ true
@@ -107,19 +107,19 @@ held-there w z s rank k f = go (rankOf (maskOf (s .unacked)) rank) refl
     go Missing e t = clash t
 
 -- so a message that may be written can be
-pub may-sendable : (l : Line) (channel rank slot : ℕ) {h : Held} → lineFits l ≡ true → sendVerdict l channel rank slot ≡ Message h → Sendable l channel slot h
+pub may-sendable : (l : Line) (channel rank space : ℕ) {h : Held} → lineFits l ≡ true → sendVerdict l channel rank space ≡ Message h → Sendable l channel space h
 unfolding sendTests
-may-sendable l channel rank slot fits e =
-    let p = may-passed l channel rank slot e in
+may-sendable l channel rank space fits e =
+    let p = may-passed l channel rank space e in
     let k = ranked l channel rank in
-    let a = pass-both (relayChannelTests l channel) (tested l channel rank slot k) (p .0) in
-    let t = passed (tested l channel rank slot k) (a .1) in
+    let a = pass-both (relayChannelTests l channel) (tested l channel rank space k) (p .0) in
+    let t = passed (tested l channel rank space k) (a .1) in
     let s = sending-side l (ok l fits channel (a .0)) (inside l fits channel (a .0)) channel in
     let u = held-there (sendWindow l channel) (sendLargest l) (sendingOf l channel) rank (sending-steps l fits channel (a .0)) s (t .0) in
     rw (p .1) (record { asked = a .0; placed = u .0; sized = u .1; roomy = leb-true _ _ (t .1 .0) })
 
 -- What writing it needs.
-module _ (l : Line) (fits : lineFits l ≡ true) (channel slot : ℕ) (h : Held) (k : Sendable l channel slot h) where
+module _ (l : Line) (fits : lineFits l ≡ true) (channel space : ℕ) (h : Held) (k : Sendable l channel space h) where
   okay : LineOk l
   okay = ok l fits channel (k .asked)
 
@@ -166,7 +166,7 @@ module _ (l : Line) (fits : lineFits l ≡ true) (channel slot : ℕ) (h : Held)
     fitting = rw (ne-eqb channel 0 (λ e. omega (arith, served))) (le-leb (length octets) (sendLargest l) (omega (arith, octets-length, send-size .1)))
 
     -- and its packet may be written
-    pub send-passes : verdict (writeTests (headFor l channel (h .number % modulus)) (acksFor l) octets (sendLargest l) slot) ≡ Pass
+    pub send-passes : verdict (writeTests (headFor l channel (h .number % modulus)) (acksFor l) octets (sendLargest l) space) ≡ Pass
     send-passes =
-        packet-passes l okay channel (h .number % modulus) slot octets (served .1) (omega arith) placed fitting
+        packet-passes l okay channel (h .number % modulus) space octets (served .1) (omega arith) placed fitting
         (rw (packet-length (headFor l channel (h .number % modulus)) (acksFor l) (acks-few l) octets, octets-length) (k .roomy))

@@ -94,7 +94,9 @@ fn run(count: u64, size: usize, what: &str) -> Tally {
     let mut got = vec![0; size];
     for number in 0..count {
         fill(&mut message, number);
-        if what != "bare" {
+        if what == "bare" {
+            got.clone_from(&message);
+        } else {
             got = carry(&mut a, &mut b, &message, what == "check", &mut tally).unwrap_or_default();
         }
         if alike(&message, &got) {

@@ -1,3 +1,4 @@
+use Rattle.line.specs.Line.{lineWith}
 use borrow.Author.Needs.{needs}
 use Rattle.line.proofs.Line.closed.Statement.{statement}
 use Rattle.line.proofs.Line.closed.Tie as tie
@@ -16,7 +17,7 @@ fresh-requires-3 c κs = search needs
 
 returns : tie.Need-returns
 returns c =
-    λ i. record { opened = 0; identifier = 0; kind = 0; modes = c .before .before .before .closed .ensures i; sending1 = c .before .before .fresh .ensures i; sending2 = c .before .before .fresh .ensures i; receiving1 = c .before .fresh2 .ensures i; receiving2 = c .before .fresh2 .ensures i; owed = c .fresh3 .ensures i }
+    λ i. lineWith 0 0 0 (c .before .before .before .closed .ensures i) (c .before .before .fresh .ensures i) (c .before .before .fresh .ensures i) (c .before .fresh2 .ensures i) (c .before .fresh2 .ensures i) (c .fresh3 .ensures i)
 
 pub closed-spec : {M : Type 1} → statement M
 closed-spec =

@@ -1,3 +1,4 @@
+use Rattle.line.specs.Line.{lineWith}
 use borrow.Author.Needs.{needs}
 use Rattle.line.proofs.Line.opened_with.Statement.{statement}
 use Rattle.line.proofs.Line.opened_with.Tie as tie
@@ -12,7 +13,7 @@ returns : tie.Need-returns
 returns c =
     let s = c .before .before .before .before .before .before .before .args .settings in
     let e = c .before .before .before .before .before .closed .ensures in
-    λ i. record { opened = 1; identifier = s .identifier; kind = s .kind; modes = c .before .before .before .before .before .before .opened .ensures i; sending1 = e i .sending1; sending2 = e i .sending2; receiving1 = e i .receiving1; receiving2 = e i .receiving2; owed = e i .owed }
+    λ i. lineWith 1 (s .identifier) (s .kind) (c .before .before .before .before .before .before .opened .ensures i) (e i .sending1) (e i .sending2) (e i .receiving1) (e i .receiving2) (e i .owed)
 
 pub opened-with-spec : {M : Type 1} → statement M
 opened-with-spec = tie.close (tie.spec opened-requires closed-requires returns)

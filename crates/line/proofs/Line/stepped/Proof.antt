@@ -1,3 +1,4 @@
+use Rattle.line.specs.Line.{lineWith}
 use Rattle.line.specs.Mode.{steppedTo}
 use borrow.Author.Needs.{needs}
 use Rattle.line.proofs.Line.stepped.Statement.{statement}
@@ -45,14 +46,14 @@ unfolding steppedTo
 returns-2 c =
     let l = c .before .before .before .before .before .args .self in
     rw (c .before .before .before .enum-told2 .given .1)
-    (λ i. record { opened = l .opened; identifier = l .identifier; kind = l .kind; modes = c .before .before .before .before .before .args .modes; sending1 = c .before .before .fresh .ensures i; sending2 = c .before .before .fresh .ensures i; receiving1 = c .before .fresh2 .ensures i; receiving2 = c .before .fresh2 .ensures i; owed = c .fresh3 .ensures i })
+    (λ i. lineWith (l .opened) (l .identifier) (l .kind) (c .before .before .before .before .before .args .modes) (c .before .before .fresh .ensures i) (c .before .before .fresh .ensures i) (c .before .fresh2 .ensures i) (c .before .fresh2 .ensures i) (c .fresh3 .ensures i))
 
 returns-3 : tie.Need-returns-3
 unfolding steppedTo
 returns-3 c =
     let l = c .before .before .before .before .before .before .before .args .self in
     rw (c .before .before .before .before .before .enum-told3 .given .1)
-    (λ i. record { opened = l .opened; identifier = l .identifier; kind = l .kind; modes = c .before .before .before .before .before .before .before .args .modes; sending1 = c .before .before .before .before .emptied .ensures i; sending2 = c .before .before .before .emptied2 .ensures i; receiving1 = c .before .before .emptied3 .ensures i; receiving2 = c .before .emptied4 .ensures i; owed = c .fresh4 .ensures i })
+    (λ i. lineWith (l .opened) (l .identifier) (l .kind) (c .before .before .before .before .before .before .before .args .modes) (c .before .before .before .before .emptied .ensures i) (c .before .before .before .emptied2 .ensures i) (c .before .before .emptied3 .ensures i) (c .before .emptied4 .ensures i) (c .fresh4 .ensures i))
 
 pub stepped-spec : {M : Type 1} → statement M
 stepped-spec =

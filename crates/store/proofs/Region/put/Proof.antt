@@ -11,15 +11,15 @@ use lib.Seq.{paste, paste-zero, paste-suc, sets, sets-eq, take-length}
 use denote.Ref.{now}
 
 abbrev Inv-loop : tie.InvT-loop
-Inv-loop store₀ place message at i₀ store i = (i ≤ length message) × (length store ≡ length store₀) × (store ≡ paste store₀ at message i)
+Inv-loop part₀ place message at i₀ part i = (i ≤ length message) × (length part ≡ length part₀) × (part ≡ paste part₀ at message i)
 
 abbrev μ-loop : tie.MeasureT-loop
-μ-loop store₀ place message at i₀ store i = length message - i
+μ-loop part₀ place message at i₀ part i = length message - i
 
 -- the message fits its slot, and the slot the store
-in-room : (c : tie.After-slot Inv-loop μ-loop) → let a = c .before .before .before .args in c .slot .result + length
-    (now (a .message)) ≤ length (now (a .store))
-in-room c =
+in-slot : (c : tie.After-slot Inv-loop μ-loop) → let a = c .before .before .before .args in c .slot .result + length
+    (now (a .message)) ≤ length (now (a .part))
+in-slot c =
     let s = c .before .before .before in
     omega (arith, c .slot .ensures, s .pre .0 .inside, s .pre .1)
 
@@ -31,16 +31,16 @@ slot-requires c κs =
 loop-holds : tie.Need-loop-holds Inv-loop μ-loop
 loop-holds c =
     let a = c .before .before .before .args in
-    (search needs, refl, paste-zero (now (a .store)) (c .slot .result) (now (a .message)))
+    (search needs, refl, paste-zero (now (a .part)) (c .slot .result) (now (a .message)))
 
-shared-slice-read-store : tie.Need-shared-slice-read-store Inv-loop μ-loop
-shared-slice-read-store c = omega arith
+shared-slice-read-part : tie.Need-shared-slice-read-part Inv-loop μ-loop
+shared-slice-read-part c = omega arith
 
-add-store : tie.Need-add-store Inv-loop μ-loop
-add-store c = omega (arith, in-room (c .before .before .before))
+add-part : tie.Need-add-part Inv-loop μ-loop
+add-part c = omega (arith, in-slot (c .before .before .before))
 
-slice-write-store : tie.Need-slice-write-store Inv-loop μ-loop
-slice-write-store c = omega (arith, in-room (c .before .before .before))
+slice-write-part : tie.Need-slice-write-part Inv-loop μ-loop
+slice-write-part c = omega (arith, in-slot (c .before .before .before))
 
 add-i : tie.Need-add-i Inv-loop μ-loop
 add-i c = omega arith
@@ -55,7 +55,7 @@ loop-again c =
     let a = r .before .before .before .args in (
       omega arith,
       simp length-set (l .inv .1),
-      rw (l .inv .2, add-one) (paste-suc (now (a .store)) (r .slot .result) (now (a .message)) (l .i) 0 (omega (arith, in-room r)) (omega arith)),
+      rw (l .inv .2, add-one) (paste-suc (now (a .part)) (r .slot .result) (now (a .message)) (l .i) 0 (omega (arith, in-slot r)) (omega arith)),
     )
 
 same-length : tie.Need-same-length Inv-loop μ-loop
@@ -67,12 +67,12 @@ returns c =
     let r = c .before .before in
     let a = r .before .before .before .args in
     let e : l .i ≡ length (now (a .message)) = omega arith in
-    let b : r .slot .result + length (now (a .message)) ≤ length (now (a .store)) = in-room r in
+    let b : r .slot .result + length (now (a .message)) ≤ length (now (a .part)) = in-slot r in
     rw e at (l .inv .2)
-    ∙ ap (λ (m : List ℕ). take (r .slot .result) (now (a .store)) ++ m ++ drop (r .slot .result + length (now (a .message)))
-    (now (a .store))) (take-length (now (a .message)))
-    ∙ sym (sets-eq (now (a .message)) (now (a .store)) (r .slot .result) b)
-    ∙ ap (λ (k : ℕ). sets (now (a .store)) k (now (a .message))) (r .slot .ensures)
+    ∙ ap (λ (m : List ℕ). take (r .slot .result) (now (a .part)) ++ m ++ drop (r .slot .result + length (now (a .message)))
+    (now (a .part))) (take-length (now (a .message)))
+    ∙ sym (sets-eq (now (a .message)) (now (a .part)) (r .slot .result) b)
+    ∙ ap (λ (k : ℕ). sets (now (a .part)) k (now (a .message))) (r .slot .ensures)
 
 pub put-spec : {M : Type 1} → statement M
 put-spec =
@@ -82,9 +82,9 @@ put-spec =
     μ-loop
     slot-requires
     loop-holds
-    shared-slice-read-store
-    add-store
-    slice-write-store
+    shared-slice-read-part
+    add-part
+    slice-write-part
     add-i
     loop-less
     loop-again
