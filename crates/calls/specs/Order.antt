@@ -41,7 +41,7 @@ openOrder b i s =
     must (bookFits b) BOOK
     ∷ must (leb i 3) RANGE
     ∷ must (not (isOpen (lineOf b i))) TAKEN
-    ∷ must (settingsFit (s .identifier) (s .kind)) RANGE
+    ∷ must (settingsFit s) RANGE
     ∷ must (not (taken b (s .identifier))) TAKEN
     ∷ []
 

@@ -43,7 +43,7 @@ mustBeOpen l = must (isOpen l) NOLINE
 
 -- opening, after them
 unfoldable pub openTests : Book → ℕ → Settings → List Test
-openTests b i s = must (not (isOpen (lineOf b i))) TAKEN ∷ must (settingsFit (s .identifier) (s .kind)) RANGE ∷ must (not (taken b (s .identifier))) TAKEN ∷ []
+openTests b i s = must (not (isOpen (lineOf b i))) TAKEN ∷ must (settingsFit s) RANGE ∷ must (not (taken b (s .identifier))) TAKEN ∷ []
 
 -- closing
 unfoldable pub closeTests : Line → ℕ → List Test

@@ -76,7 +76,7 @@ fn may_open_line(book: Book, line: u8, settings: Settings) -> Verdict
     if book.line(line).opened == Line::OPEN {
         return Verdict::Refuse(Refusal::TAKEN);
     }
-    if !line::settings_fit(settings.identifier, settings.kind) {
+    if !line::settings_fit(settings) {
         return Verdict::Refuse(Refusal::RANGE);
     }
     if book.taken(settings.identifier) {

@@ -148,7 +148,7 @@ module _ (b : Book) (i : ℕ) (o : lineOf b i .opened ≡ 0) (m : Line) (c : m .
   unfolding openTests
   opening-same j s =
       let free : taken b (s .identifier) ≡ taken other (s .identifier) = sym (taken-unread b i closed m (c ∙ sym o) (s .identifier)) in
-      λ t. verdict (must (fits-same t) BOOK ∷ lineNumber j ∷ must (not (opened-same j t)) TAKEN ∷ must (settingsFit (s .identifier) (s .kind)) RANGE ∷ must (not (free t)) TAKEN ∷ [])
+      λ t. verdict (must (fits-same t) BOOK ∷ lineNumber j ∷ must (not (opened-same j t)) TAKEN ∷ must (settingsFit s) RANGE ∷ must (not (free t)) TAKEN ∷ [])
 
   -- a packet finds the same line
   finds-same : (s : List ℕ) → packetLine b s ≡ packetLine other s

@@ -27,14 +27,14 @@ use Rattle.owed.specs.Owed.{owedFits}
 use Rattle.owed.proofs.Steps.{fresh-fits}
 use Rattle.line.specs.Line.{isOpen, openedLine, sendingOf, receivingOf, withParts, withSending, withReceiving}
 use Rattle.line.specs.Figures.{sendWindow, receiveWindow, sendLargest, receiveLargest}
-use Rattle.line.specs.Fit.{settingsFit, idle, lineTests, lineFits}
+use Rattle.line.specs.Fit.{settingsFit, settingsOf, idle, lineTests, lineFits}
 use Rattle.line.specs.Mode.{steppedTo}
 use Rattle.line.specs.declared.Line.{Line}
 use Rattle.line.specs.declared.Settings.{Settings}
 
 pub record LineOk (l : Line) : Type 0 where
   pub flag : l .opened ≤ 1
-  pub settings : settingsFit (l .identifier) (l .kind) ≡ true
+  pub settings : settingsFit (settingsOf l) ≡ true
   pub modes : modesFit (l .modes) ≡ true
   pub sending1 : sendingFits (sendWindow l 1) (sendLargest l) (l .sending1) ≡ true
   pub sending2 : sendingFits (sendWindow l 2) (sendLargest l) (l .sending2) ≡ true
@@ -76,7 +76,7 @@ unfolding lineFits
 closed-fits l o = rw o
 
 -- a line just opened
-pub opened-ok : (s : Settings) (time : ℕ) → settingsFit (s .identifier) (s .kind) ≡ true → LineOk (openedLine s time)
+pub opened-ok : (s : Settings) (time : ℕ) → settingsFit s ≡ true → LineOk (openedLine s time)
 opened-ok s time f =
     record {
       flag = lit≤ tt;

@@ -7,17 +7,22 @@ use lib.Dec.{leb, eqb}
 use Rattle.ground.specs.Pick.{pick, allHold}
 use Rattle.sending.specs.Sending.{sendingFits}
 use Rattle.receiving.specs.Receiving.{receivingFits}
-use Rattle.mode.specs.Given.{modem}
+use Rattle.mode.specs.Given.{modem, offersVbd, offersRelay}
 use Rattle.mode.specs.Fit.{modesFit}
 use Rattle.owed.specs.Owed.{owedFits}
 use Rattle.line.specs.Figures.{sendWindow, receiveWindow, sendLargest, receiveLargest}
 use Rattle.line.specs.declared.Line.{Line}
+use Rattle.line.specs.declared.Settings.{Settings}
 use Rattle.line.specs.Line.{isOpen}
 use Rattle.places.specs.Places.{maskOf}
 
 -- "identifier 0 to 127, payload type 96 to 127" (RULES 7.1, RULES 15.3, RULES 15.4)
-abbrev pub settingsFit : ℕ → ℕ → Bool
-settingsFit identifier kind = allHold (leb identifier 127 ∷ leb 96 kind ∷ leb kind 127 ∷ [])
+abbrev pub settingsFit : Settings → Bool
+settingsFit s = allHold (leb (s .identifier) 127 ∷ leb 96 (s .kind) ∷ leb (s .kind) 127 ∷ [])
+
+-- what opening named of an open line, as its record has it
+abbrev pub settingsOf : Line → Settings
+settingsOf l = record { identifier = l .identifier; kind = l .kind; vbd = offersVbd (l .modes); relay = offersRelay (l .modes) }
 
 -- nothing is held, stored or owed (RULES 15.22)
 abbrev pub idle : Line → Bool
@@ -31,7 +36,7 @@ idle l =
 -- stored or owed outside m"
 abbrev pub lineTests : Line → List Bool
 lineTests l =
-    settingsFit (l .identifier) (l .kind)
+    settingsFit (settingsOf l)
     ∷ modesFit (l .modes)
     ∷ sendingFits (sendWindow l 1) (sendLargest l) (l .sending1)
     ∷ sendingFits (sendWindow l 2) (sendLargest l) (l .sending2)

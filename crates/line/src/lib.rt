@@ -5,7 +5,7 @@ ghost use mathlib.Core.Path.{_≡_};
 ghost use Rattle.sending.specs.Sending.{sendingFits};
 ghost use Rattle.receiving.specs.Receiving.{receivingFits};
 ghost use Rattle.line.specs.Line.{closedLine, openedLine, sendingOf, withSending, receivingOf, withReceiving};
-ghost use Rattle.line.specs.Fit.{settingsFit, idle, lineFits};
+ghost use Rattle.line.specs.Fit.{settingsFit, settingsOf, idle, lineFits};
 ghost use Rattle.line.specs.Mode.{steppedTo};
 ghost use Rattle.line.specs.Figures.{sendWindow, receiveWindow, sendLargest, receiveLargest};
 ghost use Rattle.line.specs.Part.{partLength, regionOf};
@@ -49,10 +49,10 @@ pub struct Line {
 }
 
 // Are identifier and payload type within their spans?
-pub fn settings_fit(identifier: u8, kind: u8) -> bool
-    ensures { λ r. ⌜ r ≡ settingsFit identifier kind ⌝ }
+pub fn settings_fit(s: Settings) -> bool
+    ensures { λ r. ⌜ r ≡ settingsFit s ⌝ }
 {
-    (identifier <= 127) & (96 <= kind) & (kind <= 127)
+    (s.identifier <= 127) & (96 <= s.kind) & (s.kind <= 127)
 }
 
 impl Line {
@@ -207,6 +207,18 @@ impl Line {
 }
 
 impl Line {
+    // What opening named, as the record of an open line has it.
+    pub fn settings(self) -> Settings
+        ensures { λ r. ⌜ r ≡ settingsOf self ⌝ }
+    {
+        Settings {
+            identifier: self.identifier,
+            kind: self.kind,
+            vbd: self.modes.vbd == Modes::YES,
+            relay: self.modes.relay == Modes::YES,
+        }
+    }
+
     // Nothing is held, stored or owed.
     fn idle(self) -> bool
         ensures { λ r. ⌜ r ≡ idle self ⌝ }
@@ -241,7 +253,7 @@ impl Line {
         if self.opened != Line::OPEN {
             return self.opened == Line::CLOSED;
         }
-        let settings = settings_fit(self.identifier, self.kind);
+        let settings = settings_fit(self.settings());
         let modes = self.modes.fits();
         let a = self.sending_fits(1);
         let b = self.sending_fits(2);

@@ -44,7 +44,7 @@ asked-modem : (m : Modes) (time : ℕ) → verdict (askTests m modem time) ≡ P
 unfolding askStep moved
 asked-modem m time e = rw e refl
 
-module _ (store : List ℕ) (long : storeLength freshBook ≤ length store) (i : ℕ) (small : i < 4) (s : Settings) (fit : settingsFit (s .identifier) (s .kind) ≡ true) (relay : s .relay ≡ true)
+module _ (store : List ℕ) (long : storeLength freshBook ≤ length store) (i : ℕ) (small : i < 4) (s : Settings) (fit : settingsFit s ≡ true) (relay : s .relay ≡ true)
     (time then : ℕ) (later : time ≤ then) (out : List ℕ) where
   abbrev g : Gateway
   g = freshWith store

@@ -49,7 +49,7 @@ use Rattle.promise.proofs.Accepts.{taking-passes}
 use Rattle.promise.proofs.Drains.{relay-step}
 use Rattle.promise.proofs.Finish.{finishes}
 
-module _ (identifier kind : ℕ) (fitting : settingsFit identifier kind ≡ true) where
+module _ (identifier kind : ℕ) (fitting : settingsFit (record { identifier = identifier; kind = kind; vbd = true; relay = true }) ≡ true) where
   abbrev settings : Settings
   settings = record { identifier = identifier; kind = kind; vbd = true; relay = true }
 

@@ -63,7 +63,7 @@ module _ (f : Does) (i j identifier kind : ℕ) (g : Gateway) (p : Past) (h : Ga
 
 pub record Demand3 (b : Build) : Type 0 where
   -- "Take two fresh gateways .. that open a line with one identifier and payload type": they can, and come to modem relay
-  pub begins : (store : List ℕ) → storeLength freshBook ≤ length store → (i : ℕ) → i < 4 → (s : Settings) → settingsFit (s .identifier) (s .kind) ≡ true → s .relay ≡ true
+  pub begins : (store : List ℕ) → storeLength freshBook ≤ length store → (i : ℕ) → i < 4 → (s : Settings) → settingsFit s ≡ true → s .relay ≡ true
       → (time then : ℕ) → time ≤ then → (out : List ℕ) → Begins (b .does) (freshWith store) i s time then out
   -- "on each reliable channel, each way, the messages taken for sending are always those handed out, in order and octet for octet, followed by
   -- those still waiting. Each waiting message is held at one end or the other."
