@@ -64,12 +64,13 @@ putAs w r g (Stored d) message part = sets part (slotAt g (arrivalPlace w r d)) 
 putAs w r g There message part = part
 putAs w r g Old message part = part
 
--- the line's part of the store once that message has come (RULES 6.6)
-unfoldable pub storedPart : Line → ℕ → ℕ → List ℕ → List ℕ → List ℕ
-storedPart l channel number message part =
-    putAs (receiveWindow l channel) (receivingOf l channel) (regionOf l way.Receiving channel) (arrivalAt l channel number) message part
+-- octets that have the region of its side, once that message has come (RULES 6.6)
+abbrev storedIn : Region → Line → ℕ → ℕ → List ℕ → List ℕ → List ℕ
+storedIn g l channel number message octets = putAs (receiveWindow l channel) (receivingOf l channel) g (arrivalAt l channel number) message octets
 
--- the whole store then, in which the part begins at `start`
+-- the line's part of the store is such, and so is a store in which the part begins at `start`
+unfoldable pub storedPart : Line → ℕ → ℕ → List ℕ → List ℕ → List ℕ
+storedPart l channel number message part = storedIn (regionOf l way.Receiving channel) l channel number message part
+
 unfoldable pub storedStore : Line → ℕ → ℕ → ℕ → List ℕ → List ℕ → List ℕ
-storedStore l start channel number message store =
-    putAs (receiveWindow l channel) (receivingOf l channel) (regionIn start l way.Receiving channel) (arrivalAt l channel number) message store
+storedStore l start channel number message store = storedIn (regionIn start l way.Receiving channel) l channel number message store

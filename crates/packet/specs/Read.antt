@@ -30,9 +30,9 @@ countAt s = bitsAt s 32 2
 abbrev pub headerLength : List ℕ → ℕ
 headerLength s = 6 + 2 * countAt s
 
--- the longest header: with three acknowledgements (RULES 2.3)
+-- the longest header: six octets, and two for each of three acknowledgements (RULES 2.3)
 abbrev pub longestHeader : ℕ
-longestHeader = 12
+longestHeader = 6 + 2 * 3
 
 unfoldable pub payloadOf : List ℕ → List ℕ
 payloadOf s = drop (headerLength s) s

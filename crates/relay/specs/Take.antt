@@ -12,6 +12,7 @@ use Rattle.line.specs.Figures.{sendWindow, sendLargest}
 use Rattle.line.specs.Part.{regionOf, regionIn}
 use Rattle.line.specs.declared.Line.{Line}
 use Rattle.store.specs.Store.{slotAt}
+use Rattle.store.specs.declared.Region.{Region}
 use Rattle.store.specs.declared.Way.the-variants.{Sending}
 use Rattle.relay.specs.RelayTests.{relayChannelTests}
 
@@ -23,10 +24,13 @@ takeCallTests l channel n = relayChannelTests l channel ++ (must (sizeFits (send
 abbrev pub tookLine : Line → ℕ → ℕ → Line
 tookLine l channel n = withSending l channel (tookOne (sendWindow l channel) (sendingOf l channel) n)
 
--- and its part of the store with the octets in the slot of its place (RULES 5.1, RULES 6.6)
-abbrev pub tookPart : Line → ℕ → List ℕ → List ℕ → List ℕ
-tookPart l channel message part = sets part (slotAt (regionOf l Sending channel) (nextPlace (sendWindow l channel) (sendingOf l channel))) message
+-- and octets that have the region of its side, with the message in the slot of its place (RULES 5.1, RULES 6.6)
+abbrev tookIn : Region → Line → ℕ → List ℕ → List ℕ → List ℕ
+tookIn g l channel message octets = sets octets (slotAt g (nextPlace (sendWindow l channel) (sendingOf l channel))) message
 
--- the whole store then, in which the part begins at `start`
+-- the line's part of the store is such, and so is a store in which the part begins at `start`
+abbrev pub tookPart : Line → ℕ → List ℕ → List ℕ → List ℕ
+tookPart l channel message part = tookIn (regionOf l Sending channel) l channel message part
+
 abbrev pub tookStore : Line → ℕ → ℕ → List ℕ → List ℕ → List ℕ
-tookStore l start channel message store = sets store (slotAt (regionIn start l Sending channel) (nextPlace (sendWindow l channel) (sendingOf l channel))) message
+tookStore l start channel message store = tookIn (regionIn start l Sending channel) l channel message store
