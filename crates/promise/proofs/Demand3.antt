@@ -23,10 +23,10 @@ use Rattle.calls.specs.Result.{resultOf, effect}
 use Rattle.laws.proofs.OwnLine.{own-values}
 use Rattle.promise.specs.Build.{Does, ours}
 use Rattle.promise.specs.Past.{Packet, Past, tookPast, handedPast, wrotePast, heardPast}
-use Rattle.promise.specs.Run.{Gateway, accepts, lineAt, Relays, rankedMark, Honest, calls, stay, here, there}
+use Rattle.promise.specs.Run.{Gateway, bound, accepts, lineAt, Relays, rankedMark, calls, stay, here, there}
 use Rattle.promise.specs.Run as runs
 use Rattle.promise.specs.Promise.{sendsBy, receivesBy, Carried, Promised, InRelay, AllCame, Ample}
-use Rattle.promise.specs.Ours.{does, after, Provided, Goes, Run, reportBy, HandsOut, AllOut, BothOut, CanFinish}
+use Rattle.promise.specs.Ours.{Honest, does, after, Provided, Goes, Run, reportBy, HandsOut, AllOut, BothOut, CanFinish}
 use Rattle.promise.specs.Demand3.{Serves, Served, Demand3}
 use Rattle.promise.proofs.Ends.{End, turn}
 use Rattle.promise.proofs.Phases.{is-open}
@@ -41,13 +41,13 @@ use Rattle.promise.proofs.Drains.{drains, hands-go, hands-keep}
 use Rattle.promise.proofs.Finish.{finishes}
 
 -- each way is the other seen from the other end
-turned-goes : {f : Does} {i j identifier kind : ℕ} {g g′ h h′ : Gateway} {p p′ q q′ : Past} → runs.Goes f i j identifier kind g p h q g′ p′ h′ q′
-    → runs.Goes f j i identifier kind h q g p h′ q′ g′ p′
+turned-goes : {f : Does} {within i j identifier kind : ℕ} {g g′ h h′ : Gateway} {p p′ q q′ : Past} → runs.Goes f within i j identifier kind g p h q g′ p′ h′ q′
+    → runs.Goes f within j i identifier kind h q g p h′ q′ g′ p′
 turned-goes stay = stay
 turned-goes (here w s) = there (turned-goes w) s
 turned-goes (there w s) = here (turned-goes w) s
 
-pub turned-run : {f : Does} {i j identifier kind : ℕ} {g h : Gateway} {p q : Past} → runs.Run f i j identifier kind g p h q → runs.Run f j i identifier kind h q g p
+pub turned-run : {f : Does} {within i j identifier kind : ℕ} {g h : Gateway} {p q : Past} → runs.Run f within i j identifier kind g p h q → runs.Run f within j i identifier kind h q g p
 turned-run r = record { store1 = r .store2; store2 = r .store1; lines = (r .lines .1, r .lines .0); long = (r .long .1, r .long .0); goes = turned-goes (r .goes) }
 
 module _ {i j identifier kind : ℕ} {g h : Gateway} {p q : Past} (r : Run i j identifier kind g p h q) where
@@ -159,7 +159,7 @@ serves : {i identifier kind : ℕ} {g : Gateway} {p : Past} {f : End} (c : Call)
 serves {g = g} c out pass o left = record { accepted = call-accepted g c out pass; opened = is-open (left .1 .0) o .opened; inside = left .0 }
 
 -- the line is served
-all-served : {i j identifier kind : ℕ} {g h : Gateway} {p q : Past} → Run i j identifier kind g p h q → InRelay g i p → Served resultOf i j identifier kind g p h q
+all-served : {i j identifier kind : ℕ} {g h : Gateway} {p q : Past} → Run i j identifier kind g p h q → InRelay g i p → Served resultOf bound i j identifier kind g p h q
 all-served {i} {g = g} {p = p} r a =
     let k = run-kept r in
     let s = k .mine in

@@ -24,7 +24,8 @@ use Rattle.arriving.specs.Effect.{Relaying, heardLine, ackedLine, ackedAll}
 use Rattle.arriving.proofs.Effects.{heard-relaying, acked-relaying}
 use Rattle.arriving.proofs.Keeps.{heard-shaped, acked-shaped}
 use Rattle.promise.specs.Past.{Mark}
-use Rattle.promise.specs.Run.{Each, none, also, Recent, bound}
+use Rattle.promise.specs.Run.{Each, none, also, bound}
+use Rattle.promise.specs.Ours.{Recent}
 use Rattle.promise.specs.Ends.{slotsOf}
 use Rattle.promise.proofs.Ends.{End, HasCome, Names, nothing, reached, Joined, markWord, got, sends-ok, gets-ok, wide}
 use Rattle.promise.proofs.SendingAnew.{sending-joined}

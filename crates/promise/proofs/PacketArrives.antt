@@ -17,7 +17,8 @@ use Rattle.arriving.specs.Arrive.{arriveTests, newsLine, arrivedLine, arrivedPa
 use Rattle.arriving.proofs.Effects.{heard-relaying}
 use Rattle.arriving.proofs.Arrivals.{news-relaying, payload-length, arrive-passes, arrive-size, news-all, part-all, payload-line, payload-part}
 use Rattle.promise.specs.Past.{Mark, Packet, enterAll, heardPast}
-use Rattle.promise.specs.Run.{Each, none, also, Recent, bound, Honest}
+use Rattle.promise.specs.Run.{Each, none, also, bound}
+use Rattle.promise.specs.Ours.{Recent, Honest}
 use Rattle.promise.proofs.Lists.{each-at}
 use Rattle.promise.proofs.Ends.{End, Carries, nothing, message, Says, Joined}
 use Rattle.promise.proofs.NewsArrives.{withLine, base-joined, acks-joined}

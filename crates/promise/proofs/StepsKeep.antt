@@ -34,8 +34,8 @@ use Rattle.calls.specs.Order as order
 use Rattle.calls.specs.Result.{effect}
 use Rattle.laws.proofs.Identifiers.{fresh-passes}
 use Rattle.promise.specs.Past.{Packet, Past, nothingYet, heardPast}
-use Rattle.promise.specs.Run.{Gateway, lineAt, partIn, Relays, Honest, refused, elsewhere, moded, reported, took, handed, sent, wrote, heard, before, opens, calls, stay, here, there, freshWith}
-use Rattle.promise.specs.Ours.{after, Adds, Step, Goes, Run}
+use Rattle.promise.specs.Run.{Gateway, lineAt, partIn, Relays, refused, elsewhere, moded, reported, took, handed, sent, wrote, heard, before, opens, calls, stay, here, there, freshWith}
+use Rattle.promise.specs.Ours.{Honest, after, Adds, Step, Goes, Run}
 use Rattle.promise.proofs.Lists.{each-at}
 use Rattle.promise.proofs.Ends.{Joined, turn}
 use Rattle.promise.proofs.PacketArrives.{arrival-joined, arrival-passes}

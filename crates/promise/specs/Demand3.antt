@@ -24,7 +24,7 @@ use Rattle.calls.specs.Call as call
 use Rattle.calls.specs.Order.{lineFor}
 use Rattle.promise.specs.Build.{Does, Build}
 use Rattle.promise.specs.Past.{Packet, Past}
-use Rattle.promise.specs.Run.{Gateway, freshWith, does, after, accepts, lineAt, Relays, rankedMark, Honest, Run}
+use Rattle.promise.specs.Run.{Gateway, freshWith, does, after, accepts, lineAt, Relays, rankedMark, bound, Honest, Run}
 use Rattle.promise.specs.Promise.{sendsBy, receivesBy, Promised, InRelay, AllCame, Ample, reportBy, AllOut, CanFinish}
 
 -- the call is accepted, and leaves line i open and in modem relay
@@ -39,7 +39,7 @@ pub record Begins (f : Does) (g : Gateway) (i : ℕ) (s : Settings) (time then :
   pub there : Serves f (after f g (call.opening i s time) out) i (call.mode i (ask modem then)) out
 
 -- What is asked of the line between g and h, by what has become of it: p at g, q at h. `channel` is a reliable one, and the way is from g to h.
-module _ (f : Does) (i j identifier kind : ℕ) (g : Gateway) (p : Past) (h : Gateway) (q : Past) where
+module _ (f : Does) (within i j identifier kind : ℕ) (g : Gateway) (p : Past) (h : Gateway) (q : Past) where
   pub record Served : Type 0 where
     -- a message with room is taken
     pub takes : (channel : ℕ) → reliable channel ≡ true → (m : Message) → 1 ≤ length m → length m ≤ sendLargest (lineAt g i) → sendsBy g i p channel .S < cap
@@ -53,13 +53,13 @@ module _ (f : Does) (i j identifier kind : ℕ) (g : Gateway) (p : Past) (h : Ga
     pub hands : (channel : ℕ) → reliable channel ≡ true → Full (receivesBy g i p channel .stored (receivesBy g i p channel .R)) → (out : List ℕ) → receiveLargest (lineAt g i) ≤ length out
         → Serves f g i (call.handOut i channel) out
     -- every packet that the premise speaks of finds the line and is let in
-    pub arrives : (s : List ℕ) (packet : Packet) → Honest p q s packet → (out : List ℕ) → (lineFor (call.arrival s) (g .book) ≡ i) × Serves f g i (call.arrival s) out
+    pub arrives : (s : List ℕ) (packet : Packet) → Honest within p q s packet → (out : List ℕ) → (lineFor (call.arrival s) (g .book) ≡ i) × Serves f g i (call.arrival s) out
 
   -- "Once both are there": `all-out` is the last sentence; `finishes` says that what it asks for can be done
   pub record Ends (channel : ℕ) : Type 0 where
     -- "and every message still unacknowledged is sent and arrives, in any order, all can be handed out"
     pub all-out : AllCame channel g i p q → (outs : ℕ → List ℕ) → Ample outs → AllOut f j channel p h q outs
-    pub finishes : CanFinish f i j identifier kind channel g p h q
+    pub finishes : CanFinish f within i j identifier kind channel g p h q
 
 pub record Demand3 (b : Build) : Type 0 where
   -- "Take two fresh gateways .. that open a line with one identifier and payload type": they can, and come to modem relay
@@ -67,8 +67,8 @@ pub record Demand3 (b : Build) : Type 0 where
       → (time then : ℕ) → time ≤ then → (out : List ℕ) → Begins (b .does) (freshWith store) i s time then out
   -- "on each reliable channel, each way, the messages taken for sending are always those handed out, in order and octet for octet, followed by
   -- those still waiting. Each waiting message is held at one end or the other."
-  pub promised : {i j identifier kind : ℕ} {g h : Gateway} {p q : Past} → Run (b .does) i j identifier kind g p h q → Promised g i p h j q
-  pub served : {i j identifier kind : ℕ} {g h : Gateway} {p q : Past} → Run (b .does) i j identifier kind g p h q → InRelay g i p
-      → Served (b .does) i j identifier kind g p h q
-  pub ends : {i j identifier kind : ℕ} {g h : Gateway} {p q : Past} → Run (b .does) i j identifier kind g p h q → InRelay g i p → InRelay h j q
-      → (channel : ℕ) → reliable channel ≡ true → Ends (b .does) i j identifier kind g p h q channel
+  pub promised : {i j identifier kind : ℕ} {g h : Gateway} {p q : Past} → Run (b .does) bound i j identifier kind g p h q → Promised g i p h j q
+  pub served : {i j identifier kind : ℕ} {g h : Gateway} {p q : Past} → Run (b .does) bound i j identifier kind g p h q → InRelay g i p
+      → Served (b .does) bound i j identifier kind g p h q
+  pub ends : {i j identifier kind : ℕ} {g h : Gateway} {p q : Past} → Run (b .does) bound i j identifier kind g p h q → InRelay g i p → InRelay h j q
+      → (channel : ℕ) → reliable channel ≡ true → Ends (b .does) bound i j identifier kind g p h q channel

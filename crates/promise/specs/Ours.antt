@@ -1,11 +1,12 @@
--- The calls, the runs and the continuations of our own build: what the calls do is `resultOf`.
+-- The calls, the runs and the continuations of our own build: what the calls do is `resultOf`, and of what arrives fewer than 16,352 were taken after it.
 -- Assumes nothing.
 use Prim.Native.Nat.{ℕ}
 use mathlib.Core.List.{List}
 use Rattle.calls.specs.Call.{Call}
 use Rattle.calls.specs.Result.{CallResult, resultOf}
-use Rattle.promise.specs.Past.{Past}
-use Rattle.promise.specs.Run.{Gateway}
+use Rattle.flow.specs.Flow.{Message}
+use Rattle.promise.specs.Past.{Mark, Packet, Past}
+use Rattle.promise.specs.Run.{Gateway, bound}
 use Rattle.promise.specs.Run as run
 use Rattle.promise.specs.Promise as promise
 
@@ -15,20 +16,26 @@ does = run.does resultOf
 abbrev pub after : Gateway → Call → List ℕ → Gateway
 after = run.after resultOf
 
+abbrev pub Recent : (ℕ → List Message) → Mark → Type 0
+Recent = run.Recent bound
+
+abbrev pub Honest : Past → Past → List ℕ → Packet → Type 0
+Honest = run.Honest bound
+
 abbrev pub Provided : ℕ → Gateway → Past → Past → List ℕ → Call → Type 0
-Provided = run.Provided resultOf
+Provided = run.Provided resultOf bound
 
 abbrev pub Adds : ℕ → Gateway → Past → Past → List ℕ → Call → Past → Type 0
-Adds = run.Adds resultOf
+Adds = run.Adds resultOf bound
 
 abbrev pub Step : ℕ → ℕ → ℕ → Past → Gateway → Past → Gateway → Past → Type 0
-Step = run.Step resultOf
+Step = run.Step resultOf bound
 
 abbrev pub Goes : ℕ → ℕ → ℕ → ℕ → Gateway → Past → Gateway → Past → Gateway → Past → Gateway → Past → Type 0
-Goes = run.Goes resultOf
+Goes = run.Goes resultOf bound
 
 abbrev pub Run : ℕ → ℕ → ℕ → ℕ → Gateway → Past → Gateway → Past → Type 0
-Run = run.Run resultOf
+Run = run.Run resultOf bound
 
 abbrev pub reportBy : Gateway → ℕ → ℕ → ℕ
 reportBy = promise.reportBy resultOf
@@ -40,7 +47,7 @@ abbrev pub AllOut : ℕ → ℕ → Past → Gateway → Past → (ℕ → List 
 AllOut = promise.AllOut resultOf
 
 abbrev pub CanFinish : ℕ → ℕ → ℕ → ℕ → ℕ → Gateway → Past → Gateway → Past → Type 0
-CanFinish = promise.CanFinish resultOf
+CanFinish = promise.CanFinish resultOf bound
 
 abbrev pub BothOut : ℕ → ℕ → ℕ → ℕ → Gateway → Past → Gateway → Past → Type 0
-BothOut = promise.BothOut resultOf
+BothOut = promise.BothOut resultOf bound

@@ -66,12 +66,13 @@ emptyPacket g p i channel d = record { octets = given d; carries = []; names = p
 abbrev pub takenAfter : (ℕ → List Message) → Mark → ℕ
 takenAfter taken m = length (taken (m .channel)) - suc (m .number)
 
--- "fewer than 16,352 messages of its channel were taken after" it
+-- "fewer than 16,352 messages of its channel were taken after" it: the number with which the promise is made
 abbrev pub bound : ℕ
 bound = 16352
 
-abbrev pub Recent : (ℕ → List Message) → Mark → Type 0
-Recent taken m = takenAfter taken m < bound
+-- fewer than `within`: a run may be one within any number, so that others can be spoken of too
+abbrev pub Recent : ℕ → (ℕ → List Message) → Mark → Type 0
+Recent within taken m = takenAfter taken m < within
 
 -- each of a list
 pub data Each {A : Type 0} (P : A → Type 0) : List A → Type 0 where
@@ -79,14 +80,14 @@ pub data Each {A : Type 0} (P : A → Type 0) : List A → Type 0 where
   also : {a : A} {l : List A} → P a → Each P l → Each P (a ∷ l)
 
 -- What is assumed of a packet that arrives for the line; p is the past of who hears it, q that of its peer.
-pub record Honest (p q : Past) (s : List ℕ) (k : Packet) : Type 0 where
+pub record Honest (within : ℕ) (p q : Past) (s : List ℕ) (k : Packet) : Type 0 where
   -- "every packet arriving for the line was written by its peer for this line since the peer opened it"
   pub written : List·Memᴰ k (q .wrote)
   pub same : k .octets ≡ s
   -- "fewer than 16,352 messages of its channel were taken after any message it carries, acknowledges or names as base"
-  pub carries : Each (Recent (q .taken)) (k .carries)
-  pub names : Each (Recent (p .taken)) (k .names)
-  pub acks : Each (Recent (p .taken)) (k .acks)
+  pub carries : Each (Recent within (q .taken)) (k .carries)
+  pub names : Each (Recent within (p .taken)) (k .names)
+  pub acks : Each (Recent within (p .taken)) (k .acks)
 
 -- a gateway whose book is fresh
 abbrev pub freshWith : List ℕ → Gateway
@@ -101,54 +102,55 @@ module _ (f : Does) where
   abbrev pub after : Gateway → Call → List ℕ → Gateway
   after g c out = record { book = does g c out .book; store = does g c out .store }
 
-  -- "Provided that every packet arriving for the line" is such a packet: asked only of one that is let in there. Nothing is assumed of any other call.
-  abbrev pub Provided : ℕ → Gateway → Past → Past → List ℕ → Call → Type 0
-  Provided i g p q out (call.arrival s) = accepts (does g (call.arrival s) out) ≡ true → lineFor (call.arrival s) (g .book) ≡ i → (k : Packet) × Honest p q s k
-  Provided i g p q out (call.opening _ s time) = Unit
-  Provided i g p q out (call.closing _) = Unit
-  Provided i g p q out (call.mode _ a) = Unit
-  Provided i g p q out (call.taking _ channel m) = Unit
-  Provided i g p q out (call.sending _ channel rank) = Unit
-  Provided i g p q out (call.empty _ channel) = Unit
-  Provided i g p q out (call.handOut _ channel) = Unit
-  Provided i g p q out (call.report _ channel) = Unit
+  module _ (within : ℕ) where
+    -- "Provided that every packet arriving for the line" is such a packet: asked only of one that is let in there. Nothing is assumed of any other call.
+    abbrev pub Provided : ℕ → Gateway → Past → Past → List ℕ → Call → Type 0
+    Provided i g p q out (call.arrival s) = accepts (does g (call.arrival s) out) ≡ true → lineFor (call.arrival s) (g .book) ≡ i → (k : Packet) × Honest within p q s k
+    Provided i g p q out (call.opening _ s time) = Unit
+    Provided i g p q out (call.closing _) = Unit
+    Provided i g p q out (call.mode _ a) = Unit
+    Provided i g p q out (call.taking _ channel m) = Unit
+    Provided i g p q out (call.sending _ channel rank) = Unit
+    Provided i g p q out (call.empty _ channel) = Unit
+    Provided i g p q out (call.handOut _ channel) = Unit
+    Provided i g p q out (call.report _ channel) = Unit
 
-  -- What a call at line i of a gateway g adds to the past of the line; q is the peer's past.
-  pub data Adds (i : ℕ) (g : Gateway) (p q : Past) (out : List ℕ) : Call → Past → Type 0 where
-    -- a call that is refused, or is for another line, adds nothing
-    refused : (c : Call) → accepts (does g c out) ≡ false → Adds i g p q out c p
-    elsewhere : (c : Call) → (lineFor c (g .book) ≡ i → ⊥) → Adds i g p q out c p
-    moded : (a : Act) → Adds i g p q out (call.mode i a) p
-    reported : (channel : ℕ) → Adds i g p q out (call.report i channel) p
-    -- the message taken is the call's octets, the one handed out is what was put into the output, a packet is the octets put there
-    took : (channel : ℕ) (m : Message) → accepts (does g (call.taking i channel m) out) ≡ true → Adds i g p q out (call.taking i channel m) (tookPast p channel m)
-    handed : (channel : ℕ) → accepts (does g (call.handOut i channel) out) ≡ true → Adds i g p q out (call.handOut i channel) (handedPast p channel (given (does g (call.handOut i channel) out)))
-    sent : (channel rank : ℕ) → accepts (does g (call.sending i channel rank) out) ≡ true → Adds i g p q out (call.sending i channel rank) (wrotePast p (sentPacket g p i channel rank (does g (call.sending i channel rank) out)))
-    wrote : (channel : ℕ) → accepts (does g (call.empty i channel) out) ≡ true → Adds i g p q out (call.empty i channel) (wrotePast p (emptyPacket g p i channel (does g (call.empty i channel) out)))
-    -- a packet arrives for the line in modem relay, whatever the answer
-    heard : (s : List ℕ) (k : Packet) → lineFor (call.arrival s) (g .book) ≡ i → Relays g i → Honest p q s k → Adds i g p q out (call.arrival s) (heardPast p k)
+    -- What a call at line i of a gateway g adds to the past of the line; q is the peer's past.
+    pub data Adds (i : ℕ) (g : Gateway) (p q : Past) (out : List ℕ) : Call → Past → Type 0 where
+      -- a call that is refused, or is for another line, adds nothing
+      refused : (c : Call) → accepts (does g c out) ≡ false → Adds i g p q out c p
+      elsewhere : (c : Call) → (lineFor c (g .book) ≡ i → ⊥) → Adds i g p q out c p
+      moded : (a : Act) → Adds i g p q out (call.mode i a) p
+      reported : (channel : ℕ) → Adds i g p q out (call.report i channel) p
+      -- the message taken is the call's octets, the one handed out is what was put into the output, a packet is the octets put there
+      took : (channel : ℕ) (m : Message) → accepts (does g (call.taking i channel m) out) ≡ true → Adds i g p q out (call.taking i channel m) (tookPast p channel m)
+      handed : (channel : ℕ) → accepts (does g (call.handOut i channel) out) ≡ true → Adds i g p q out (call.handOut i channel) (handedPast p channel (given (does g (call.handOut i channel) out)))
+      sent : (channel rank : ℕ) → accepts (does g (call.sending i channel rank) out) ≡ true → Adds i g p q out (call.sending i channel rank) (wrotePast p (sentPacket g p i channel rank (does g (call.sending i channel rank) out)))
+      wrote : (channel : ℕ) → accepts (does g (call.empty i channel) out) ≡ true → Adds i g p q out (call.empty i channel) (wrotePast p (emptyPacket g p i channel (does g (call.empty i channel) out)))
+      -- a packet arrives for the line in modem relay, whatever the answer
+      heard : (s : List ℕ) (k : Packet) → lineFor (call.arrival s) (g .book) ≡ i → Relays g i → Honest within p q s k → Adds i g p q out (call.arrival s) (heardPast p k)
 
-  -- A step of one gateway, at its line i; q is the past of its peer.
-  pub data Step (i identifier kind : ℕ) (q : Past) (g : Gateway) (p : Past) : Gateway → Past → Type 0 where
-    -- before the opening anything may be called
-    before : p .opened ≡ false → (c : Call) (out : List ℕ) → Step i identifier kind q g p (after g c out) p
-    -- "open a line with one identifier and payload type"
-    opens : p .opened ≡ false → (s : Settings) (time : ℕ) (out : List ℕ) → s .identifier ≡ identifier → s .kind ≡ kind
-        → accepts (does g (call.opening i s time) out) ≡ true → Step i identifier kind q g p (after g (call.opening i s time) out) justOpened
-    -- "keep it open and each stay in modem relay once there"
-    calls : p .opened ≡ true → (c : Call) (out : List ℕ) → isOpen (lineAt (after g c out) i) ≡ true → (Relays g i → Relays (after g c out) i)
-        → {p′ : Past} → Adds i g p q out c p′ → Step i identifier kind q g p (after g c out) p′
+    -- A step of one gateway, at its line i; q is the past of its peer.
+    pub data Step (i identifier kind : ℕ) (q : Past) (g : Gateway) (p : Past) : Gateway → Past → Type 0 where
+      -- before the opening anything may be called
+      before : p .opened ≡ false → (c : Call) (out : List ℕ) → Step i identifier kind q g p (after g c out) p
+      -- "open a line with one identifier and payload type"
+      opens : p .opened ≡ false → (s : Settings) (time : ℕ) (out : List ℕ) → s .identifier ≡ identifier → s .kind ≡ kind
+          → accepts (does g (call.opening i s time) out) ≡ true → Step i identifier kind q g p (after g (call.opening i s time) out) justOpened
+      -- "keep it open and each stay in modem relay once there"
+      calls : p .opened ≡ true → (c : Call) (out : List ℕ) → isOpen (lineAt (after g c out) i) ≡ true → (Relays g i → Relays (after g c out) i)
+          → {p′ : Past} → Adds i g p q out c p′ → Step i identifier kind q g p (after g c out) p′
 
-  -- Steps of the two from where they are, in any order: line i of the one, line j of the other.
-  pub data Goes (i j identifier kind : ℕ) (g : Gateway) (p : Past) (h : Gateway) (q : Past) : Gateway → Past → Gateway → Past → Type 0 where
-    stay : Goes i j identifier kind g p h q g p h q
-    here : {g′ g″ h′ : Gateway} {p′ p″ q′ : Past} → Goes i j identifier kind g p h q g′ p′ h′ q′ → Step i identifier kind q′ g′ p′ g″ p″ → Goes i j identifier kind g p h q g″ p″ h′ q′
-    there : {g′ h′ h″ : Gateway} {p′ q′ q″ : Past} → Goes i j identifier kind g p h q g′ p′ h′ q′ → Step j identifier kind p′ h′ q′ h″ q″ → Goes i j identifier kind g p h q g′ p′ h″ q″
+    -- Steps of the two from where they are, in any order: line i of the one, line j of the other.
+    pub data Goes (i j identifier kind : ℕ) (g : Gateway) (p : Past) (h : Gateway) (q : Past) : Gateway → Past → Gateway → Past → Type 0 where
+      stay : Goes i j identifier kind g p h q g p h q
+      here : {g′ g″ h′ : Gateway} {p′ p″ q′ : Past} → Goes i j identifier kind g p h q g′ p′ h′ q′ → Step i identifier kind q′ g′ p′ g″ p″ → Goes i j identifier kind g p h q g″ p″ h′ q′
+      there : {g′ h′ h″ : Gateway} {p′ q′ q″ : Past} → Goes i j identifier kind g p h q g′ p′ h′ q′ → Step j identifier kind p′ h′ q′ h″ q″ → Goes i j identifier kind g p h q g′ p′ h″ q″
 
-  -- "Take two fresh gateways": what comes of them and of the line. Lines are 0 to 3; a store has at least 42,240 octets (`storeLength`), whatever they are.
-  pub record Run (i j identifier kind : ℕ) (g : Gateway) (p : Past) (h : Gateway) (q : Past) : Type 0 where
-    pub store1 : List ℕ
-    pub store2 : List ℕ
-    pub lines : (i < 4) × (j < 4)
-    pub long : (storeLength freshBook ≤ length store1) × (storeLength freshBook ≤ length store2)
-    pub goes : Goes i j identifier kind (freshWith store1) nothingYet (freshWith store2) nothingYet g p h q
+    -- "Take two fresh gateways": what comes of them and of the line. Lines are 0 to 3; a store has at least 42,240 octets (`storeLength`), whatever they are.
+    pub record Run (i j identifier kind : ℕ) (g : Gateway) (p : Past) (h : Gateway) (q : Past) : Type 0 where
+      pub store1 : List ℕ
+      pub store2 : List ℕ
+      pub lines : (i < 4) × (j < 4)
+      pub long : (storeLength freshBook ≤ length store1) × (storeLength freshBook ≤ length store2)
+      pub goes : Goes i j identifier kind (freshWith store1) nothingYet (freshWith store2) nothingYet g p h q

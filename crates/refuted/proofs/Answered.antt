@@ -32,7 +32,8 @@ use Rattle.calls.specs.Call as call
 use Rattle.calls.specs.Order.{lineFor}
 use Rattle.calls.specs.Result.{resultOf, effect}
 use Rattle.promise.specs.Past.{Mark, Packet, Past, there, renewed, enter, enterAll, handedPast, wrotePast, heardPast}
-use Rattle.promise.specs.Run.{Gateway, does, after, given, lineAt, Each, none, also, Recent, Honest, rankedMark, baseMark, emptyPacket, handed, wrote, heard}
+use Rattle.promise.specs.Run.{Gateway, does, after, given, lineAt, Each, none, also, rankedMark, baseMark, emptyPacket, handed, wrote, heard}
+use Rattle.promise.specs.Ours.{Recent, Honest}
 use Rattle.promise.specs.Promise.{receivesBy, AllCame}
 use Rattle.promise.specs.Demand3.{Serves}
 use Rattle.refuted.specs.Idle.{expected, ignored}

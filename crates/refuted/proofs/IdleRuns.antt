@@ -38,7 +38,8 @@ use Rattle.calls.specs.Order.{openOrder, askOrder, takeOrder, sendOrder, handOu
 use Rattle.calls.specs.Result.{resultOf, acceptedResult, effect}
 use Rattle.promise.specs.Build.{Does}
 use Rattle.promise.specs.Past.{Packet, Past, nothingYet, justOpened, tookPast, wrotePast, heardPast}
-use Rattle.promise.specs.Run.{Gateway, freshWith, does, after, sentPacket, none, also, Honest, took, sent, heard, moded, opens, calls, Goes, stay, here, there, Run}
+use Rattle.promise.specs.Run.{Gateway, bound, freshWith, does, after, sentPacket, none, also, took, sent, heard, moded, opens, calls, Goes, stay, here, there, Run}
+use Rattle.promise.specs.Ours.{Honest}
 use Rattle.promise.specs.Promise.{AllCame, HandsOut}
 use Rattle.promise.specs.Promise as promise
 use Rattle.promise.specs.Demand3.{Demand3}
@@ -62,7 +63,7 @@ module _ (w t : Does) (a : Arrives) where
   abbrev pub inside : Gateway
   inside = after f (after f fresh opening []) asks []
 
-  pub begun : Goes f 0 0 5 98 fresh nothingYet fresh nothingYet inside justOpened inside justOpened
+  pub begun : Goes f bound 0 0 5 98 fresh nothingYet fresh nothingYet inside justOpened inside justOpened
   unfolding resultOf acceptedResult effect partStart order lineFor openOrder askOrder bookFits linesFit allSpan openIn lineFits member noTwice allSpans owedFits modesFit sendingFits receivingFits maskOf setOf sizes.sizesFit every askStep moved timed channelsFor steppedTo
   begun =
       there (here (there (here stay
@@ -72,7 +73,7 @@ module _ (w t : Does) (a : Arrives) where
       (calls refl asks [] refl (λ _. refl) (moded (ask modem 0)))
 
 -- a run of two from line 0 to line 0
-abbrev pub run : (f : Does) {g h : Gateway} {p q : Past} → Goes f 0 0 5 98 fresh nothingYet fresh nothingYet g p h q → Run f 0 0 5 98 g p h q
+abbrev pub run : (f : Does) {g h : Gateway} {p q : Past} → Goes f bound 0 0 5 98 fresh nothingYet fresh nothingYet g p h q → Run f bound 0 0 5 98 g p h q
 run f w = record { store1 = zeros; store2 = zeros; lines = (lit< tt, lit< tt); long = (zeros-long, zeros-long); goes = w }
 
 -- a message that is taken is counted
@@ -109,7 +110,7 @@ module _ (a : Arrives) where
   abbrev sender : Gateway
   sender = after g holds (call.sending 0 1 0) space
 
-  one-sent : Goes g 0 0 5 98 fresh nothingYet fresh nothingYet sender (wrotePast past packet) start justOpened
+  one-sent : Goes g bound 0 0 5 98 fresh nothingYet fresh nothingYet sender (wrotePast past packet) start justOpened
   unfolding resultOf acceptedResult effect order lineFor openOrder askOrder bookFits linesFit allSpan openIn lineFits member noTwice allSpans owedFits modesFit sendingFits receivingFits maskOf setOf sizes.sizesFit every askStep moved timed channelsFor steppedTo takeOrder tookOne partStart sendOrder heldPacket heldOf rankOf lowest setBelow acksFor firstThree baseFor wroteLine packetOctets withoutThree
   one-sent =
       here (here (begun resultOf resultOf a)

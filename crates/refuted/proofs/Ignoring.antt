@@ -48,7 +48,7 @@ use Rattle.calls.specs.Order.{openOrder, askOrder, order, lineFor}
 use Rattle.calls.specs.Result.{CallResult, resultOf, acceptedResult, effect}
 use Rattle.promise.specs.Past.{Past, nothingYet, justOpened, heardPast}
 use Rattle.promise.proofs.Phases.{part-there}
-use Rattle.promise.specs.Run.{Gateway, does, after, lineAt, partIn, rankedMark, moded, heard, opens, calls, Step, Goes, stay, here, there, Run}
+use Rattle.promise.specs.Run.{Gateway, bound, does, after, lineAt, partIn, rankedMark, moded, heard, opens, calls, Step, Goes, stay, here, there, Run}
 use Rattle.promise.specs.Promise.{receivesBy, AllCame, HandsOut}
 use Rattle.promise.specs.Promise as promise
 use Rattle.promise.specs.Ends.{slotsOf, receivesOf}
@@ -75,7 +75,7 @@ start test =
     let opening : Call = call.opening 0 (named 5) 0 in
     let asks : Call = call.mode 0 (ask modem 0) in
     let g : Gateway = after resultOf (after resultOf fresh opening []) asks [] in
-    let w : Goes resultOf 0 0 5 98 fresh nothingYet fresh nothingYet g justOpened g justOpened
+    let w : Goes resultOf bound 0 0 5 98 fresh nothingYet fresh nothingYet g justOpened g justOpened
     = there (here (there (here stay
     (opens refl (named 5) 0 [] refl refl refl))
     (opens refl (named 5) 0 [] refl refl refl))
@@ -141,10 +141,10 @@ module _ {test : ℕ → ℕ → Bool} {k : ℕ} (few : k ≤ 16384) (a : At tes
   within : lineAt h′ 0 .modes .local ≡ modem
   within = ap (λ (l : Line). l .modes .local) line ∙ let-in .inside
 
-  gone : Run (f test) 0 0 5 98 (rounds.g₂ few a) (rounds.p₂ few a) h′ q′
+  gone : Run (f test) bound 0 0 5 98 (rounds.g₂ few a) (rounds.p₂ few a) h′ q′
   gone =
-      let step : Step (f test) 0 5 98 (rounds.p₂ few a) h (a .q) h′ q′
-      = subst (λ (d : CallResult). Step (f test) 0 5 98 (rounds.p₂ few a) h (a .q) (record { book = d .book; store = d .store }) q′) leaves
+      let step : Step (f test) bound 0 5 98 (rounds.p₂ few a) h (a .q) h′ q′
+      = subst (λ (d : CallResult). Step (f test) bound 0 5 98 (rounds.p₂ few a) h (a .q) (record { book = d .book; store = d .store }) q′) leaves
       (calls (yours .mine .0) comes [] (subst (λ (d : CallResult). isOpen (lineOf (d .book) 0) ≡ true) (sym leaves) opened)
       (λ _. subst (λ (d : CallResult). lineOf (d .book) 0 .modes .local ≡ modem) (sym leaves) within)
       (heard s (rounds.packet few a) (rounds.here few a) (yours .mine .1) (rounds.honest few a))) in

@@ -40,7 +40,7 @@ use Rattle.calls.specs.Result.{resultOf, acceptedResult, effect}
 use Rattle.promise.specs.Build.{Does}
 use Rattle.promise.specs.Past.{Packet, Past, nothingYet, justOpened, tookPast, wrotePast, heardPast}
 use Rattle.promise.specs.Past as marks
-use Rattle.promise.specs.Run.{Gateway, does, after, sentPacket, emptyPacket, none, also, took, sent, wrote, heard, calls, Goes, here, there}
+use Rattle.promise.specs.Run.{Gateway, bound, does, after, sentPacket, emptyPacket, none, also, took, sent, wrote, heard, calls, Goes, here, there}
 use Rattle.promise.specs.Demand3.{Demand3}
 use Rattle.refuted.specs.Idle.{arriving}
 use Rattle.refuted.specs.Quick.{frees, freesOnAck}
@@ -80,7 +80,7 @@ full = takes start eight
 abbrev fullPast : Past
 fullPast = tells justOpened eight
 
-taken : Goes f 0 0 5 98 fresh nothingYet fresh nothingYet full fullPast start justOpened
+taken : Goes f bound 0 0 5 98 fresh nothingYet fresh nothingYet full fullPast start justOpened
 unfolding resultOf acceptedResult effect order lineFor openOrder askOrder bookFits linesFit allSpan openIn lineFits member noTwice allSpans owedFits modesFit sendingFits receivingFits maskOf setOf sizes.sizesFit every askStep moved timed channelsFor steppedTo takeOrder tookOne partStart
 taken =
     here (here (here (here (here (here (here (here (begun resultOf resultOf frees)
@@ -118,7 +118,7 @@ freer = after f (after f full (call.sending 0 2 0) space) (call.arrival (ack .oc
 abbrev freerPast : Past
 freerPast = heardPast (wrotePast fullPast one) ack
 
-acked : Goes f 0 0 5 98 fresh nothingYet fresh nothingYet freer freerPast answered answeredPast
+acked : Goes f bound 0 0 5 98 fresh nothingYet fresh nothingYet freer freerPast answered answeredPast
 unfolding resultOf acceptedResult effect order lineFor openOrder askOrder bookFits linesFit allSpan openIn lineFits member noTwice allSpans owedFits modesFit sendingFits receivingFits maskOf setOf sizes.sizesFit every askStep moved timed channelsFor steppedTo takeOrder tookOne partStart sendOrder heldPacket heldOf rankOf lowest setBelow acksFor firstThree baseFor wroteLine packetOctets withoutThree arriveOrder ownerFrom headAt numberAt baseAt acksAt ackAt acksServed payloadOf reading.sizeFits bitsAt arrivedLine newsLine heardLine heardBase ackedAll ackedLine ackedBy storedLine arrivalOf storedAt entered enters arrivedStore storedStore emptyOrder writes.emptyPacket marks.there marks.renewed marks.enter marks.enterAll
 acked =
     here (there (there (here taken
@@ -161,7 +161,7 @@ dropped = after f (after f over (call.sending 0 2 7) space) (call.arrival (late 
 abbrev droppedPast : Past
 droppedPast = heardPast (wrotePast overPast ninth) late
 
-overrun : Goes f 0 0 5 98 fresh nothingYet fresh nothingYet dropped droppedPast told toldPast
+overrun : Goes f bound 0 0 5 98 fresh nothingYet fresh nothingYet dropped droppedPast told toldPast
 unfolding resultOf acceptedResult effect order lineFor openOrder askOrder bookFits linesFit allSpan openIn lineFits member noTwice allSpans owedFits modesFit sendingFits receivingFits maskOf setOf sizes.sizesFit every askStep moved timed channelsFor steppedTo takeOrder tookOne partStart sendOrder heldPacket heldOf rankOf lowest setBelow acksFor firstThree baseFor wroteLine packetOctets withoutThree arriveOrder ownerFrom headAt numberAt baseAt acksAt ackAt acksServed payloadOf reading.sizeFits bitsAt arrivedLine newsLine heardLine heardBase ackedAll ackedLine ackedBy storedLine arrivalOf storedAt entered enters arrivedStore storedStore emptyOrder writes.emptyPacket marks.there marks.renewed marks.enter marks.enterAll
 overrun =
     here (there (there (here (here acked

@@ -27,7 +27,8 @@ use Rattle.calls.specs.Call as call
 use Rattle.calls.specs.Order.{lineFor}
 use Rattle.calls.specs.Result.{resultOf, effect}
 use Rattle.promise.specs.Past.{Mark, Packet, Past, tookPast, wrotePast}
-use Rattle.promise.specs.Run.{Gateway, does, after, lineAt, Each, none, also, Recent, Honest, rankedMark, baseMark, sentPacket, took, sent}
+use Rattle.promise.specs.Run.{Gateway, does, after, lineAt, Each, none, also, rankedMark, baseMark, sentPacket, took, sent}
+use Rattle.promise.specs.Ours.{Recent, Honest}
 use Rattle.promise.specs.Promise.{sendsBy, reportBy}
 use Rattle.promise.specs.Demand3.{Serves}
 use Rattle.refuted.specs.Idle.{expected}

@@ -14,7 +14,7 @@ use Rattle.calls.specs.Call.{Call}
 use Rattle.calls.specs.Result.{CallResult, resultOf}
 use Rattle.promise.specs.Build.{Does}
 use Rattle.promise.specs.Past.{Past}
-use Rattle.promise.specs.Run.{Gateway, does, after, lineAt, partIn, Adds, Step, calls, here, Run}
+use Rattle.promise.specs.Run.{Gateway, bound, does, after, lineAt, partIn, Adds, Step, calls, here, Run}
 use Rattle.promise.specs.Promise.{sendsBy, receivesBy, InRelay}
 use Rattle.promise.specs.Ends.{sendsOf, receivesOf}
 use Rattle.promise.specs.Demand2.{Ready}
@@ -29,8 +29,8 @@ f test = arriving (ignores test)
 
 -- line 0 of both, identifier 5 and type 98
 pub record Twin (test : ℕ → ℕ → Bool) (g : Gateway) (p : Past) (h : Gateway) (q : Past) : Type 0 where
-  pub ours : Run resultOf 0 0 5 98 g p h q
-  pub sized : Run (f test) 0 0 5 98 g p h q
+  pub ours : Run resultOf bound 0 0 5 98 g p h q
+  pub sized : Run (f test) bound 0 0 5 98 g p h q
   pub mine : InRelay g 0 p
   pub yours : InRelay h 0 q
 
@@ -38,19 +38,19 @@ pub turned : {test : ℕ → ℕ → Bool} {g h : Gateway} {p q : Past} → Twin
 turned t = record { ours = turned-run (t .ours); sized = turned-run (t .sized); mine = t .yours; yours = t .mine }
 
 -- a run goes on with a step
-pub goes-on : {d : Does} {g g′ h : Gateway} {p p′ q : Past} → Run d 0 0 5 98 g p h q → Step d 0 5 98 q g p g′ p′ → Run d 0 0 5 98 g′ p′ h q
+pub goes-on : {d : Does} {g g′ h : Gateway} {p p′ q : Past} → Run d bound 0 0 5 98 g p h q → Step d bound 0 5 98 q g p g′ p′ → Run d bound 0 0 5 98 g′ p′ h q
 goes-on r s = record { store1 = r .store1; store2 = r .store2; lines = r .lines; long = r .long; goes = here (r .goes) s }
 
 module _ {test : ℕ → ℕ → Bool} {g h : Gateway} {p q : Past} (t : Twin test g p h q) where
-  pub served : Served resultOf 0 0 5 98 g p h q
+  pub served : Served resultOf bound 0 0 5 98 g p h q
   served = ours-demand3 .served (t .ours) (t .mine)
 
   -- a call that both do alike
-  pub alike : (c : Call) (out : List ℕ) {p′ : Past} → p′ .opened ≡ true → Serves resultOf g 0 c out → does (f test) g c out ≡ does resultOf g c out → Adds resultOf 0 g p q out c p′ → Adds (f test) 0 g p q out c p′
+  pub alike : (c : Call) (out : List ℕ) {p′ : Past} → p′ .opened ≡ true → Serves resultOf g 0 c out → does (f test) g c out ≡ does resultOf g c out → Adds resultOf bound 0 g p q out c p′ → Adds (f test) bound 0 g p q out c p′
       → Twin test (after resultOf g c out) p′ h q
   alike c out {p′} o s same a b =
-      let step : Step (f test) 0 5 98 q g p (after resultOf g c out) p′
-      = subst (λ (d : CallResult). Step (f test) 0 5 98 q g p (record { book = d .book; store = d .store }) p′) same
+      let step : Step (f test) bound 0 5 98 q g p (after resultOf g c out) p′
+      = subst (λ (d : CallResult). Step (f test) bound 0 5 98 q g p (record { book = d .book; store = d .store }) p′) same
       (calls (t .mine .0) c out (subst (λ (d : CallResult). isOpen (lineOf (d .book) 0) ≡ true) (sym same) (s .opened))
       (λ _. subst (λ (d : CallResult). lineOf (d .book) 0 .modes .local ≡ 3) (sym same) (s .inside)) b) in
       record { ours = goes-on (t .ours) (calls (t .mine .0) c out (s .opened) (λ _. s .inside) a); sized = goes-on (t .sized) step; mine = (o, s .inside); yours = t .yours }
