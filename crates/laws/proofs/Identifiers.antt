@@ -13,8 +13,7 @@ use Rattle.book.specs.declared.Book.{Book}
 use Rattle.book.proofs.Facts.{book-ok}
 use Rattle.book.proofs.Fresh.{fresh-fits, fresh-shaped}
 use Rattle.book.proofs.OneOwner.{one-owner, never-resting}
-use Rattle.calls.specs.Result.{resultOf}
-use Rattle.laws.specs.Reached.{Turn, reach}
+use Rattle.laws.specs.Reached.{Turn, turned, reach}
 use Rattle.laws.proofs.Keeps.{Passes, every-call-keeps}
 
 -- "one identifier twice among open and resting": on two open lines, on an open line and at rest, or at rest twice
@@ -42,19 +41,18 @@ no-identifier-twice b fits shaped =
 pub fresh-passes : (bookFits freshBook ≡ true) × BookShaped freshBook
 fresh-passes = (fresh-fits, fresh-shaped)
 
-pub reach-keeps : (ts : List Turn) (b : Book) (store : List ℕ) → bookFits b ≡ true → BookShaped b → Passes (reach b store ts .book)
+pub reach-keeps : (ts : List Turn) (b : Book) → bookFits b ≡ true → BookShaped b → Passes (reach b ts)
 unfolding reach
-reach-keeps [] b store fits shaped = (fits, shaped)
-reach-keeps (t ∷ ts) b store fits shaped =
-    let d = resultOf (t .call) b store (t .out) in
-    let k = every-call-keeps (t .call) b store (t .out) fits shaped in
-    reach-keeps ts (d .book) (d .store) (k .0) (k .1)
+reach-keeps [] b fits shaped = (fits, shaped)
+reach-keeps (t ∷ ts) b fits shaped =
+    let k = every-call-keeps (t .call) b (t .store) (t .out) fits shaped in
+    reach-keeps ts (turned b t .book) (k .0) (k .1)
 
--- so whatever is called, BOOK never refuses a book that was made by calls
-pub reached-passes : (ts : List Turn) (store : List ℕ) → (bookFits (reach freshBook store ts .book) ≡ true) × BookShaped (reach freshBook store ts .book)
-reached-passes ts store = reach-keeps ts freshBook store fresh-fits fresh-shaped
+-- so whatever is called and whatever is lent, BOOK never refuses a book that was made by calls
+pub reached-passes : (ts : List Turn) → (bookFits (reach freshBook ts) ≡ true) × BookShaped (reach freshBook ts)
+reached-passes ts = reach-keeps ts freshBook fresh-fits fresh-shaped
 
-pub reached-once : (ts : List Turn) (store : List ℕ) → NoneTwice (reach freshBook store ts .book)
-reached-once ts store =
-    let k = reached-passes ts store in
-    no-identifier-twice (reach freshBook store ts .book) (k .0) (k .1)
+pub reached-once : (ts : List Turn) → NoneTwice (reach freshBook ts)
+reached-once ts =
+    let k = reached-passes ts in
+    no-identifier-twice (reach freshBook ts) (k .0) (k .1)

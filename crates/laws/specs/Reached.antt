@@ -1,22 +1,23 @@
--- Calls one after another, from a book and a store on.
+-- Calls one after another, from a book on. Each is lent a store and an output of its own: a book that is reached is one that any calls leave, whoever
+-- keeps the stores. A caller that lends one store all the time is a case of it.
 -- Assumes nothing.
 use Prim.Native.Nat.{ℕ}
 use mathlib.Core.List.{List, [], _∷_}
 use Rattle.book.specs.declared.Book.{Book}
 use Rattle.calls.specs.Call.{Call}
-use Rattle.calls.specs.Result.{resultOf}
+use Rattle.calls.specs.Result.{CallResult, resultOf}
 
--- a call, with the output that is lent to it
+-- a call, with the store and the output that are lent to it
 pub record Turn : Type 0 where
   pub call : Call
+  pub store : List ℕ
   pub out : List ℕ
 
--- a book, and the store that is lent to the calls on it
-pub record State : Type 0 where
-  pub book : Book
-  pub store : List ℕ
+-- what a turn does
+abbrev pub turned : Book → Turn → CallResult
+turned b t = resultOf (t .call) b (t .store) (t .out)
 
--- what the calls leave, each on what the one before it left
-unfoldable pub reach : Book → List ℕ → List Turn → State
-reach b store [] = record { book = b; store = store }
-reach b store (t ∷ ts) = let d = resultOf (t .call) b store (t .out) in reach (d .book) (d .store) ts
+-- the book that the turns leave, each on what the one before it left
+unfoldable pub reach : Book → List Turn → Book
+reach b [] = b
+reach b (t ∷ ts) = reach (turned b t .book) ts

@@ -35,9 +35,9 @@ use Rattle.calls.specs.Call.{Call}
 use Rattle.calls.specs.Call as call
 use Rattle.calls.specs.Order.{openOrder, askOrder, takeOrder, order, lineFor}
 use Rattle.calls.specs.Result.{resultOf, acceptedResult, effect}
-use Rattle.laws.specs.Reached.{Turn, reach}
-use Rattle.laws.proofs.Identifiers.{reached-passes}
-use Rattle.promise.specs.Run.{Gateway, accepts, does, given, lineAt}
+use Rattle.laws.proofs.Identifiers.{fresh-passes}
+use Rattle.laws.proofs.Keeps.{Passes, every-call-keeps}
+use Rattle.promise.specs.Run.{Gateway, freshWith, accepts, does, given, lineAt}
 use Rattle.promise.specs.Build.{Build}
 use Rattle.promise.specs.Demand2.{Ready, Demand2}
 use Rattle.promise.specs.ReportRule.{heldFrom, Reports}
@@ -50,33 +50,43 @@ zeros = replicate storeOctets 0
 abbrev pub named : ℕ → Settings
 named identifier = record { identifier = identifier; kind = 98; vbd = true; relay = true }
 
--- what calls leave of a fresh gateway
-abbrev called : List Turn → Gateway
-called ts = let t = reach freshBook zeros ts in record { book = t .book; store = t .store }
+-- what calls leave of a gateway, each lent the store that the one before it left, and no output
+abbrev called : Gateway → List Call → Gateway
+called g [] = g
+called g (c ∷ cs) = let d = resultOf c (g .book) (g .store) [] in called (record { book = d .book; store = d .store }) cs
+
+called-passes : (cs : List Call) (g : Gateway) → Passes (g .book) → Passes (called g cs .book)
+called-passes [] g k = k
+called-passes (c ∷ cs) g k =
+    let d = resultOf c (g .book) (g .store) [] in
+    called-passes cs (record { book = d .book; store = d .store }) (every-call-keeps c (g .book) (g .store) [] (k .0) (k .1))
+
+-- of a fresh one
+abbrev made : List Call → Gateway
+made = called (freshWith zeros)
 
 -- it is long enough
 pub zeros-long : storeLength freshBook ≤ length zeros
 zeros-long = let e : storeOctets ≤ length zeros = lit≤ tt in omega (arith, store-length freshBook)
 
-ready : (ts : List Turn) → isOpen (lineAt (called ts) 0) ≡ true → storeOctets ≤ length (called ts .store) → Ready (called ts) 0
-ready ts e l = let k = reached-passes ts zeros in record { fits = k .0; shaped = k .1; long = omega (arith, store-length (called ts .book)); small = lit< tt; opened = e }
-
-abbrev turn : Call → Turn
-turn c = record { call = c; out = [] }
+ready : (cs : List Call) → isOpen (lineAt (made cs) 0) ≡ true → storeOctets ≤ length (made cs .store) → Ready (made cs) 0
+ready cs e l =
+    let k = called-passes cs (freshWith zeros) fresh-passes in
+    record { fits = k .0; shaped = k .1; long = omega (arith, store-length (made cs .book)); small = lit< tt; opened = e }
 
 -- line 0 is opened, and a request brings it into modem relay
-abbrev turns : ℕ → List Turn
-turns identifier = turn (call.opening 0 (named identifier) 0) ∷ turn (call.mode 0 (ask modem 0)) ∷ []
+abbrev calls : ℕ → List Call
+calls identifier = call.opening 0 (named identifier) 0 ∷ call.mode 0 (ask modem 0) ∷ []
 
 abbrev pub there : ℕ → Gateway
-there identifier = called (turns identifier)
+there identifier = made (calls identifier)
 
 -- the packets of two lines do not say the same: no build gives one packet s wherever it writes one
 pub constant-packets-fail : (b : Build) (s : List ℕ) → ((g : Gateway) (out : List ℕ) → accepts (does (b .does) g (call.empty 0 0) out) ≡ true → given (does (b .does) g (call.empty 0 0) out) ≡ s) → Demand2 b → ⊥
-unfolding reach resultOf acceptedResult effect partStart order lineFor openOrder askOrder bookFits linesFit allSpan openIn lineFits member noTwice allSpans owedFits modesFit sendingFits receivingFits maskOf setOf sizes.sizesFit every askStep moved timed channelsFor steppedTo
+unfolding resultOf acceptedResult effect partStart order lineFor openOrder askOrder bookFits linesFit allSpan openIn lineFits member noTwice allSpans owedFits modesFit sendingFits receivingFits maskOf setOf sizes.sizesFit every askStep moved timed channelsFor steppedTo
 constant-packets-fail b s same d =
-    let one = d .empty-back (there 5) 0 (ready (turns 5) refl (lit≤ tt)) refl 0 (lit≤ tt) (replicate 12 0) (lit≤ tt) in
-    let other = d .empty-back (there 6) 0 (ready (turns 6) refl (lit≤ tt)) refl 0 (lit≤ tt) (replicate 12 0) (lit≤ tt) in
+    let one = d .empty-back (there 5) 0 (ready (calls 5) refl (lit≤ tt)) refl 0 (lit≤ tt) (replicate 12 0) (lit≤ tt) in
+    let other = d .empty-back (there 6) 0 (ready (calls 6) refl (lit≤ tt)) refl 0 (lit≤ tt) (replicate 12 0) (lit≤ tt) in
     let n : _≡_ {A = ℕ} 5 6 = ap (λ (h : Head). h .identifier) (sym (one .1 .head-back) ∙ ap headAt (same (there 5) (replicate 12 0) (one .0) ∙ sym (same (there 6) (replicate 12 0) (other .0))) ∙ other .1 .head-back) in
     omega (arith, n)
 
@@ -85,10 +95,10 @@ constant-packet-fails s = constant-packets-fail (constantPacket s) s (λ g out e
 
 -- of no message and of one the report says not the same
 pub made-up-fails : (n : ℕ) → Reports (madeUp n) → ⊥
-unfolding reach resultOf acceptedResult effect order lineFor openOrder askOrder bookFits linesFit allSpan openIn lineFits member noTwice allSpans owedFits modesFit sendingFits receivingFits maskOf setOf sizes.sizesFit every askStep moved timed channelsFor steppedTo takeOrder tookOne partStart heldFrom
+unfolding resultOf acceptedResult effect order lineFor openOrder askOrder bookFits linesFit allSpan openIn lineFits member noTwice allSpans owedFits modesFit sendingFits receivingFits maskOf setOf sizes.sizesFit every askStep moved timed channelsFor steppedTo takeOrder tookOne partStart heldFrom
 made-up-fails n d =
-    let ts : List Turn = turn (call.opening 0 (named 5) 0) ∷ turn (call.mode 0 (ask modem 0)) ∷ turn (call.taking 0 1 (7 ∷ [])) ∷ [] in
-    let none = d .exact (there 5) 0 (ready (turns 5) refl (lit≤ tt)) refl 1 refl [] in
-    let one = d .exact (called ts) 0 (ready ts refl (lit≤ tt)) refl 1 refl [] in
+    let cs : List Call = call.opening 0 (named 5) 0 ∷ call.mode 0 (ask modem 0) ∷ call.taking 0 1 (7 ∷ []) ∷ [] in
+    let none = d .exact (there 5) 0 (ready (calls 5) refl (lit≤ tt)) refl 1 refl [] in
+    let one = d .exact (made cs) 0 (ready cs refl (lit≤ tt)) refl 1 refl [] in
     let e : _≡_ {A = ℕ} 0 1 = ap (λ (a : Answer). getD (a .values) 0 0) (sym none ∙ one) in
     omega (arith, e)

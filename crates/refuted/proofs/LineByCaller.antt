@@ -24,14 +24,13 @@ use Rattle.book.specs.Book.{openIn, linesFit, bookFits, ownerFrom}
 use Rattle.book.specs.Parts.{partStart}
 use Rattle.calls.specs.Order.{openOrder, askOrder, arriveOrder, order, lineFor}
 use Rattle.calls.specs.Result.{resultOf, acceptedResult, effect}
-use Rattle.laws.specs.Reached.{reach}
 use Rattle.promise.specs.Demand2.{Demand2}
 use Rattle.refuted.proofs.IdlePackets.{there}
 use Rattle.refuted.specs.Quick.{callersLine}
 
 -- a packet for identifier 6 is accepted at the line of identifier 5
 pub callers-line-fails : Demand2 callersLine → ⊥
-unfolding reach resultOf acceptedResult effect order lineFor openOrder askOrder bookFits linesFit allSpan openIn lineFits member noTwice allSpans owedFits modesFit sendingFits receivingFits maskOf setOf sizes.sizesFit every askStep moved timed channelsFor steppedTo partStart arriveOrder ownerFrom headAt numberAt baseAt acksAt ackAt acksServed payloadOf packet.sizeFits bitsAt
+unfolding resultOf acceptedResult effect order lineFor openOrder askOrder bookFits linesFit allSpan openIn lineFits member noTwice allSpans owedFits modesFit sendingFits receivingFits maskOf setOf sizes.sizesFit every askStep moved timed channelsFor steppedTo partStart arriveOrder ownerFrom headAt numberAt baseAt acksAt ackAt acksServed payloadOf packet.sizeFits bitsAt
 callers-line-fails d =
     let n : _≡_ {A = ℕ} 5 6 = d .inside (there 5) (6 ∷ 98 ∷ 0 ∷ 0 ∷ 0 ∷ 0 ∷ []) [] refl .named in
     omega (arith, n)
