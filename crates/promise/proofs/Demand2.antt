@@ -36,6 +36,8 @@ use Rattle.promise.specs.Demand2.{Ready, Gone, Demand2}
 use Rattle.promise.proofs.LineStays.{stepped-modes}
 use Rattle.promise.proofs.Bodies.{connect-written, connect-read, break-written, break-read, slip-read, slip-written}
 use Rattle.promise.proofs.Packets.{sending-writes, empty-writes, arrival-entitled}
+use Rattle.promise.proofs.Arrivals.{let-in, outside-stays}
+use Rattle.promise.proofs.ModesStay.{modes-stay, opens-in, closes}
 
 -- S after an indication that is heard, and after a request
 heard-local : (m : Modes) (k time : ℕ) → verdict (hearTests m k time) ≡ Pass → hearStep m k time .modes .local ≡ heardMode m k
@@ -109,6 +111,11 @@ ours-demand2 =
       sending-back = λ g i r inside channel v rank few out space. sending-writes r inside channel out v rank few space;
       empty-back = λ g i r inside channel c out space. empty-writes r inside channel out c space;
       inside = arrival-entitled;
+      outside = outside-stays;
+      lets-in = let-in;
+      opens = opens-in;
+      closes = λ g i r out space. closes r out space;
+      modes-stay = modes-stay;
       moves = λ g i r a out. (answer-said r a out, modes-left r a out);
       hears = λ g i r k time e out. hears r k time e out;
       asks = λ g i r k time e out. asks r k time e out;

@@ -24,6 +24,9 @@ pub mod Meets
 pub mod Begins
 pub mod Bodies
 pub mod Packets
+pub mod Arrivals
+pub mod ModesStay
+pub mod Demand1
 pub mod Demand2
 pub mod Demand3
 pub mod ReportCounts

@@ -135,7 +135,8 @@ module _ (g : Gateway) (s out : List ℕ) (taken : accepts (does g (call.arrival
       go (At j) e = refl
       go Nobody e = clash e
 
-  answers : getD (does g (call.arrival s) out .answer .values) 0 0 ≡ at
+  -- the answer names the line that the packet is for
+  pub answers : getD (does g (call.arrival s) out .answer .values) 0 0 ≡ at
   unfolding lineFor effect
   answers = ap (λ (vs : List ℕ). getD vs 0 0) (own-values (call.arrival s) (g .book) (g .store) out (call-passes g (call.arrival s) out taken))
 

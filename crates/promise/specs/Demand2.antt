@@ -1,10 +1,11 @@
--- DEMAND 2, asked of any build: bodies, slips and packets are written where they may be and read back, no relay packet is accepted outside modem
--- relay, and the media modes move as Annex C permits.
+-- DEMAND 2, asked of any build: bodies, slips and packets are written where they may be and read back, a packet that may be let in is, no relay packet
+-- is accepted outside modem relay, and the media modes move as Annex C permits and by nothing else.
 -- Assumes nothing.
 use Prim.Native.Nat.{ℕ, _%_, _≤_, _<_}
 use mathlib.Core.Path.{_≡_}
-use mathlib.Core.Bool.{true}
+use mathlib.Core.Bool.{Bool, true, false}
 use mathlib.Core.List.{List, [], _∷_}
+use lib.Dec.{eqb}
 use lib.ListN.{length, getD}
 use Rattle.ground.specs.Answer.{Answer, accepted}
 use Rattle.ground.specs.Pick.{bit}
@@ -29,25 +30,29 @@ use Rattle.channel.specs.Channel.{modulus}
 use Rattle.sending.specs.Sending.{heldCount}
 use Rattle.sending.specs.declared.Held.{Held}
 use Rattle.mode.specs.Given.{modem, hasLeft}
-use Rattle.mode.specs.Moved.{ended}
+use Rattle.mode.specs.Moved.{ended, openedModes}
 use Rattle.mode.specs.Indication.{hearTests, heardMode}
 use Rattle.mode.specs.Request.{askTests}
 use Rattle.mode.specs.TableC2.{permitted}
 use Rattle.mode.specs.Acts.{Act, hear, ask, outcome}
 use Rattle.mode.specs.declared.Modes.{Modes}
-use Rattle.line.specs.Line.{isOpen, sendingOf}
+use Rattle.line.specs.Line.{isOpen, sendingOf, closedLine}
 use Rattle.line.specs.Part.{regionOf}
 use Rattle.line.specs.declared.Line.{Line}
+use Rattle.line.specs.declared.Settings.{Settings}
 use Rattle.store.specs.Store.{octetsIn}
 use Rattle.store.specs.declared.Way.the-variants as way
 use Rattle.relay.specs.RelayTests.{reliable}
 use Rattle.writing.specs.Write.{acksFor, headFor}
 use Rattle.writing.specs.Send.{ranked, heldIn, longestPacket}
-use Rattle.book.specs.Book.{bookFits}
-use Rattle.book.specs.Parts.{storeLength}
+use Rattle.arriving.specs.Arrive.{arrivedLine, arrivedPart}
+use Rattle.book.specs.Book.{bookFits, withLine}
+use Rattle.book.specs.Parts.{storeLength, withPart}
 use Rattle.book.specs.Shape.{BookShaped}
+use Rattle.calls.specs.Call.{Call}
 use Rattle.calls.specs.Call as call
-use Rattle.calls.specs.Result.{CallResult, slipOf}
+use Rattle.calls.specs.Order.{order, lineFor}
+use Rattle.calls.specs.Result.{CallResult, resultWith, slipOf}
 use Rattle.promise.specs.Build.{Left, octetsLeft, Build}
 use Rattle.promise.specs.Run.{Gateway, does, after, accepts, given, lineAt, partIn, Relays}
 
@@ -92,6 +97,33 @@ pub record Entitled (l : Line) (s : List ℕ) : Type 0 where
   pub named : l .identifier ≡ headAt s .identifier
   pub typed : l .kind ≡ headAt s .kind
 
+-- all tests of a call hold
+abbrev pub May : Gateway → Call → List ℕ → Type 0
+May g c out = verdict (order c (g .book) (length (g .store)) (length out)) ≡ Pass
+
+-- a packet let in at line i: the answer names the line; base, acknowledgements and payload have had their effect on its record and on its part of
+-- the store; and all else is as it was
+abbrev pub letIn : Gateway → ℕ → List ℕ → List ℕ → CallResult
+letIn g i s out =
+    resultWith (accepted (i ∷ [])) (withLine (g .book) i (arrivedLine (lineAt g i) s))
+    (withPart (g .book) i (g .store) (arrivedPart (lineAt g i) s (partIn g i))) out
+
+-- line j and its part of the store are as they were
+abbrev pub Stays : Gateway → Gateway → ℕ → Type 0
+Stays g h j = (lineAt h j ≡ lineAt g j) × (partIn h j ≡ partIn g j)
+
+-- the calls that have to do with the modes of line j: its opening, its closing and its mode calls
+abbrev pub ofModes : Call → ℕ → Bool
+ofModes (call.opening i s time) j = eqb i j
+ofModes (call.closing i) j = eqb i j
+ofModes (call.mode i a) j = eqb i j
+ofModes (call.taking i channel message) j = false
+ofModes (call.sending i channel rank) j = false
+ofModes (call.empty i channel) j = false
+ofModes (call.arrival s) j = false
+ofModes (call.handOut i channel) j = false
+ofModes (call.report i channel) j = false
+
 -- modem relay was left for good
 abbrev pub Gone : Modes → Type 0
 Gone m = (hasLeft m ≡ true) × (m .local ≡ modem → ⊥)
@@ -122,6 +154,18 @@ pub record Demand2 (b : Build) : Type 0 where
   -- "No relay packet is accepted outside modem relay": the answer names the line
   pub inside : (g : Gateway) (s out : List ℕ) → accepts (does (b .does) g (call.arrival s) out) ≡ true
       → Entitled (lineAt g (getD (does (b .does) g (call.arrival s) out .answer .values) 0 0)) s
+  -- .. and leaves every line outside modem relay, and its part of the store, as they were, whatever line the answer names
+  pub outside : (g : Gateway) → BookShaped (g .book) → (s out : List ℕ) (j : ℕ) → (Relays g j → ⊥) → Stays g (after (b .does) g (call.arrival s) out) j
+  -- a packet that passes its tests is let in, at the line that has its identifier
+  pub lets-in : (g : Gateway) → BookShaped (g .book) → (s out : List ℕ) → May g (call.arrival s) out
+      → does (b .does) g (call.arrival s) out ≡ letIn g (lineFor (call.arrival s) (g .book)) s out
+  -- an opened line begins in the modes of an opening, a closed one has a closed line's, and no call but these and the mode calls changes any
+  pub opens : (g : Gateway) → BookShaped (g .book) → (i : ℕ) (s : Settings) (time : ℕ) (out : List ℕ) → May g (call.opening i s time) out
+      → (accepts (does (b .does) g (call.opening i s time) out) ≡ true)
+      × (lineAt (after (b .does) g (call.opening i s time) out) i .modes ≡ openedModes (s .vbd) (s .relay) time)
+  pub closes : (g : Gateway) (i : ℕ) → Ready g i → (out : List ℕ) → slip.slipLength ≤ length out → lineAt (after (b .does) g (call.closing i) out) i ≡ closedLine
+  pub modes-stay : (g : Gateway) → BookShaped (g .book) → (c : Call) (out : List ℕ) (j : ℕ) → ofModes c j ≡ false
+      → lineAt (after (b .does) g c out) j .modes ≡ lineAt g j .modes
   -- "media modes are those": a mode call says, and makes of the modes, what its sentences say, accepted or refused
   pub moves : (g : Gateway) (i : ℕ) → Ready g i → (a : Act) (out : List ℕ)
       → let o = outcome (lineAt g i .modes) a in

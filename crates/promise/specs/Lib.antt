@@ -5,5 +5,6 @@ pub mod Ends
 pub mod Promise
 pub mod Ours
 pub mod Demand3
+pub mod Demand1
 pub mod Demand2
 pub mod ReportRule
