@@ -1,8 +1,11 @@
--- A BREAK body that may be written reads back as what was written, and every body has one reading.
+-- A BREAK body that may be written reads back as what was written, every body has one reading, and a body that is read is written again as it came.
 -- Assumes nothing.
 use mathlib.Core.Path.{_≡_, refl, ap, sym, _∙_}
 use mathlib.Core.List.{List}
-use Prim.Native.Nat.{ℕ}
+use Prim.Native.Nat.{ℕ, _≤_}
+use native.Mathlib.Omega.{arith}
+use lib.ListN.{length}
+use borrow.Author.Tests.{eqb-true, le-leb}
 use Rattle.ground.specs.Refusal.{verdict}
 use Rattle.ground.specs.declared.Verdict.the-variants.{Pass}
 use Rattle.ground.proofs.Verdicts.{passed, passes}
@@ -12,6 +15,8 @@ use Rattle.breaks.specs.Break.{layout, breakAt, breakFits, breakOctets, breakRe
 use Rattle.breaks.specs.declared.Break.{Break}
 use Rattle.breaks.specs.declared.Reading.the-variants.{Says, Refused}
 use Rattle.breaks.proofs.Writes.{fits-room}
+use Rattle.roundtrip.specs.Again.{Octets}
+use Rattle.roundtrip.proofs.Octets.{packs-whole}
 
 -- a body that may be written reads back
 pub round : (b : Break) (space : ℕ) → verdict (writeTests b space) ≡ Pass → breakRead (breakOctets b) ≡ Says b
@@ -30,3 +35,12 @@ written-once b d m n p q e =
     let y = round d n q in
     let s : breakRead (breakOctets b) ≡ breakRead (breakOctets d) = ap breakRead e in
     cc
+
+-- a body that is read may be written, and is written as it was read
+pub octets-round : (s : List ℕ) → Octets s → verdict (readTests s) ≡ Pass → (space : ℕ) → length s ≤ space
+    → (verdict (writeTests (breakAt s) space) ≡ Pass) × (breakOctets (breakAt s) ≡ s)
+unfolding breakAt breakOctets
+octets-round s o ok space h =
+    let t = passed (readTests s) ok in
+    let l : length s ≡ 2 = eqb-true _ _ (t .0) in
+    (passes (writeTests (breakAt s) space) (t .1 .0, (le-leb 2 space (omega arith), tt)), packs-whole s (layout (breakAt s)) o (omega arith) (refl, (refl, (refl, tt))))

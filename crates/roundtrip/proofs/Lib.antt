@@ -1,4 +1,7 @@
 pub mod Breaks
+pub mod ConnectOctets
 pub mod Connects
+pub mod Octets
+pub mod PacketOctets
 pub mod Packets
 pub mod Slips
