@@ -39,6 +39,7 @@ use Rattle.promise.proofs.StepsKeep.{Pair, run-kept, run-on, arrives-he
 use Rattle.promise.proofs.Accepts.{report-passes, take-passes, send-passes, held-rank, hand-passes, empty-passes}
 use Rattle.promise.proofs.Drains.{drains, hands-go, hands-keep}
 use Rattle.promise.proofs.Finish.{finishes}
+use Rattle.promise.proofs.NotesTrue.{notes-true}
 
 -- each way is the other seen from the other end
 turned-goes : {f : Does} {within i j identifier kind : ℕ} {g g′ h h′ : Gateway} {p p′ q q′ : Past} → runs.Goes f within i j identifier kind g p h q g′ p′ h′ q′
@@ -190,6 +191,7 @@ ours-demand3 =
     record {
       begins = begins;
       promised = promised;
+      noted = notes-true;
       served = all-served;
       ends = λ r a b channel v. record { all-out = all-out r channel v b; finishes = can-finish r channel v a b };
     }

@@ -32,6 +32,7 @@ use Rattle.relay.specs.RelayTests.{reliable}
 use Rattle.channel.proofs.Windows.{window-narrow}
 use Rattle.promise.specs.Past.{Mark, Packet, Past}
 use Rattle.promise.specs.Run.{Each, bound}
+use Rattle.promise.specs.Notes.{mark, markWord, HasCome, Names, nothing, reached, Carries, message, Noted}
 use Rattle.promise.specs.Ends.{sendsOf, receivesOf}
 use Rattle.promise.proofs.Lists.{each-map}
 
@@ -41,13 +42,6 @@ pub record End : Type 0 where
   pub part : List ℕ
   pub past : Past
 
-abbrev pub mark : ℕ → ℕ → Mark
-mark channel number = record { channel = channel; number = number }
-
--- a message as a packet names it: its channel and the 14 bits of its number
-abbrev pub markWord : Mark → ℕ
-markWord m = wordOf (m .channel) (m .number % modulus)
-
 -- the views of an end, by channel
 abbrev pub sent : End → ℕ → Sends
 sent e channel = sendsOf (e .part) (e .line) channel
@@ -55,37 +49,8 @@ sent e channel = sendsOf (e .part) (e .line) channel
 abbrev pub got : End → ℕ → Receives
 got e channel = receivesOf (e .part) (e .line) channel
 
--- a message of a reliable channel that has come to an end; `views` are what it shows
-pub record HasCome (views : ℕ → Receives) (m : Mark) : Type 0 where
-  pub served : reliable (m .channel) ≡ true
-  pub have : Have (views (m .channel)) (m .number)
-
--- the base that a packet names: none on channel 0, on another one that its writer has reached
-pub data Names (views : ℕ → Receives) (channel base : ℕ) : List Mark → Type 0 where
-  nothing : reliable channel ≡ false → Names views channel base []
-  reached : (b : ℕ) → reliable channel ≡ true → base ≡ b % modulus → b ≤ views channel .R → Names views channel base (mark channel b ∷ [])
-
--- the message that a packet carries: none without payload, else one that its writer took
-pub data Carries (taken : ℕ → List Message) (channel number : ℕ) (payload : Message) : List Mark → Type 0 where
-  nothing : payload ≡ [] → Carries taken channel number payload []
-  message : (n : ℕ) → reliable channel ≡ true → number ≡ n % modulus → Data (taken channel) n payload → Carries taken channel number payload (mark channel n ∷ [])
-
--- what a packet k says is true of the end that wrote it
-pub record Said (identifier kind : ℕ) (taken : ℕ → List Message) (views : ℕ → Receives) (k : Packet) : Type 0 where
-  -- its octets pass every test of an arrival, and are for the line
-  pub plain : verdict (headTests (k .octets)) ≡ Pass
-  pub listed : verdict (listTests (k .octets)) ≡ Pass
-  pub sized : payloadFits (k .octets) largest ≡ true
-  pub named : headAt (k .octets) .identifier ≡ identifier
-  pub typed : headAt (k .octets) .kind ≡ kind
-  -- they are the 14 bits of the full numbers, and those are true
-  pub words : ackList (acksAt (k .octets)) ≡ map markWord (k .acks)
-  pub acks : Each (HasCome views) (k .acks)
-  pub names : Names views (headAt (k .octets) .channel) (headAt (k .octets) .base) (k .names)
-  pub carries : Carries taken (headAt (k .octets) .channel) (headAt (k .octets) .number) (payloadOf (k .octets)) (k .carries)
-
 abbrev pub Says : End → Packet → Type 0
-Says e = Said (e .line .identifier) (e .line .kind) (e .past .taken) (got e)
+Says e = Noted (e .line .identifier) (e .line .kind) (e .past .taken) (got e)
 
 -- the sides fit, also where the line is closed
 pub record Sides (l : Line) : Type 0 where
@@ -147,7 +112,7 @@ module _ {u v : ℕ → Receives} (g : (c : ℕ) → reliable c ≡ true → Gro
     carries-on (nothing e) = nothing e
     carries-on {channel} {payload = payload} (message n r e d) = message n r e (more channel n payload d)
 
-    pub said-on : {i j t s : ℕ} → j ≡ i → s ≡ t → (k : Packet) → Said i t ts u k → Said j s us v k
+    pub said-on : {i j t s : ℕ} → j ≡ i → s ≡ t → (k : Packet) → Noted i t ts u k → Noted j s us v k
     said-on a b k s =
         record {
           plain = s .plain;

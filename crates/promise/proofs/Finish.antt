@@ -29,7 +29,8 @@ use Rattle.promise.specs.Past.{Mark, Packet, Past, wrotePast, heardPast}
 use Rattle.promise.specs.Run.{Gateway, lineAt, Each, none, also, rankedMark, baseMark, sentPacket, emptyPacket, sent, wrote, heard, stay, here, there}
 use Rattle.promise.specs.Promise.{sendsBy, InRelay, AllCame}
 use Rattle.promise.specs.Ours.{Recent, Honest, does, after, Adds, Goes, CanFinish}
-use Rattle.promise.proofs.Ends.{End, Joined, turn, mark}
+use Rattle.promise.specs.Notes.{mark}
+use Rattle.promise.proofs.Ends.{End, Joined, turn}
 use Rattle.promise.proofs.Ends as ends
 use Rattle.promise.proofs.Phases.{endOf, Sound, end-now}
 use Rattle.promise.proofs.OwnLine.{Passes, call-accepted, line-left, part-stays}

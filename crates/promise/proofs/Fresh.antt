@@ -39,7 +39,8 @@ use Rattle.promise.specs.Past.{Past}
 use Rattle.promise.specs.Run.{Each, none}
 use Rattle.promise.specs.Ends.{slotsOf, sendsOf, receivesOf}
 use Rattle.promise.proofs.Lists.{each-map}
-use Rattle.promise.proofs.Ends.{End, Said, Sides, Whole, Joined, sent, got, came-on, said-on, grows-none, flow-as}
+use Rattle.promise.specs.Notes.{Noted}
+use Rattle.promise.proofs.Ends.{End, Sides, Whole, Joined, sent, got, came-on, said-on, grows-none, flow-as}
 
 -- both channels as they start, and nothing owed
 pub record Unused (l : Line) : Type 0 where
@@ -158,7 +159,7 @@ module _ {e f : End} (j : Joined e f) (l : Line) (part : List ℕ) (b : Bool) wh
 
   same-joined : lineFits l ≡ true → Shaped l → Sides l → partLength l ≤ length part → owedOf (l .owed) ≡ owedOf (e .line .owed)
       → ((c : ℕ) → reliable c ≡ true → sent anew c ≡ sent e c) → ((c : ℕ) → reliable c ≡ true → got anew c ≡ got e c)
-      → Each (Said (l .identifier) (l .kind) (e .past .taken) (got e)) (e .past .wrote) → Joined anew f
+      → Each (Noted (l .identifier) (l .kind) (e .past .taken) (got e)) (e .past .wrote) → Joined anew f
   same-joined fits shaped sides long owed sending gets says =
       let grows : (c : ℕ) → reliable c ≡ true → Grows (got e c) (got anew c) = λ c r. grows-none (gets c r) in
       record {

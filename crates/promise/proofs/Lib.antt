@@ -28,5 +28,6 @@ pub mod Arrivals
 pub mod ModesStay
 pub mod Demand1
 pub mod Demand2
+pub mod NotesTrue
 pub mod Demand3
 pub mod ReportCounts

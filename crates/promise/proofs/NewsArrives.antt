@@ -27,7 +27,8 @@ use Rattle.promise.specs.Past.{Mark}
 use Rattle.promise.specs.Run.{Each, none, also, bound}
 use Rattle.promise.specs.Ours.{Recent}
 use Rattle.promise.specs.Ends.{slotsOf}
-use Rattle.promise.proofs.Ends.{End, HasCome, Names, nothing, reached, Joined, markWord, got, sends-ok, gets-ok, wide}
+use Rattle.promise.specs.Notes.{HasCome, Names, nothing, reached, markWord}
+use Rattle.promise.proofs.Ends.{End, Joined, got, sends-ok, gets-ok, wide}
 use Rattle.promise.proofs.SendingAnew.{sending-joined}
 
 -- the end with another record of its line

@@ -15,7 +15,7 @@ use Rattle.owed.specs.Owed.{member, enters}
 use Rattle.promise.specs.Past.{Mark, alike, there, renewed, enter}
 use Rattle.promise.specs.Run.{Each, none, also}
 use Rattle.promise.proofs.Lists.{each-append}
-use Rattle.promise.proofs.Ends.{markWord}
+use Rattle.promise.specs.Notes.{markWord}
 
 -- two words are one where channel and 14 bits are
 words-alike : (x m : Mark) → eqb (markWord x) (markWord m) ≡ alike x m

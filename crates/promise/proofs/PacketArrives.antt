@@ -20,7 +20,8 @@ use Rattle.promise.specs.Past.{Mark, Packet, enterAll, heardPast}
 use Rattle.promise.specs.Run.{Each, none, also, bound}
 use Rattle.promise.specs.Ours.{Recent, Honest}
 use Rattle.promise.proofs.Lists.{each-at}
-use Rattle.promise.proofs.Ends.{End, Carries, nothing, message, Says, Joined}
+use Rattle.promise.specs.Notes.{Carries, nothing, message}
+use Rattle.promise.proofs.Ends.{End, Says, Joined}
 use Rattle.promise.proofs.NewsArrives.{withLine, base-joined, acks-joined}
 use Rattle.promise.proofs.PayloadArrives.{storing-joined}
 

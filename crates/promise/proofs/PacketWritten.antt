@@ -58,7 +58,8 @@ use Rattle.promise.specs.Ends.{slotsOf}
 use Rattle.promise.proofs.PacketBack.{first-three, packet-says}
 use Rattle.promise.proofs.Lists.{each-take, each-drop, take-map, drop-map}
 use Rattle.promise.proofs.Views.{slots-hold}
-use Rattle.promise.proofs.Ends.{End, Names, nothing, reached, Carries, message, Says, Whole, Joined, mark, markWord, sent, got, sends-ok}
+use Rattle.promise.specs.Notes.{Names, nothing, reached, Carries, message, mark, markWord}
+use Rattle.promise.proofs.Ends.{End, Says, Whole, Joined, sent, got, sends-ok}
 use Rattle.promise.proofs.SendingAnew.{asked-open}
 
 -- the end that has written packet k

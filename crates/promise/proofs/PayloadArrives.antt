@@ -42,7 +42,8 @@ use Rattle.promise.specs.Run.{also, bound}
 use Rattle.promise.specs.Ends.{slotsOf}
 use Rattle.promise.proofs.Lists.{each-map}
 use Rattle.promise.proofs.Views.{SameSlots, receiving-here, receiving-other, slots-hold, put-here, put-apart}
-use Rattle.promise.proofs.Ends.{End, HasCome, Joined, mark, got, gets-ok, wide, flow-as}
+use Rattle.promise.specs.Notes.{HasCome, mark}
+use Rattle.promise.proofs.Ends.{End, Joined, got, gets-ok, wide, flow-as}
 use Rattle.promise.proofs.SendingAnew.{way-apart, channel-apart}
 use Rattle.promise.proofs.ReceivingAnew.{receiving-joined}
 use Rattle.promise.proofs.OwedNumbers.{enter-words, each-enter}

@@ -22,7 +22,8 @@ use Rattle.store.specs.declared.Way.the-variants as way
 use Rattle.relay.specs.RelayTests.{reliable}
 use Rattle.promise.specs.Ends.{slotsOf}
 use Rattle.promise.proofs.Lists.{each-at}
-use Rattle.promise.proofs.Ends.{End, Joined, mark, sent, got}
+use Rattle.promise.specs.Notes.{mark}
+use Rattle.promise.proofs.Ends.{End, Joined, sent, got}
 
 -- a place that has a message is in the set
 pub full-bit : (w : ℕ) (slot : Slots) (sizes : List ℕ) (m origin i : ℕ) → Full (messageOf w slot sizes m origin i) → bitOf m i ≡ true

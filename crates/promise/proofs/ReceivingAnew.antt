@@ -42,7 +42,8 @@ use Rattle.promise.specs.Run.{Each, bound}
 use Rattle.promise.specs.Ends.{slotsOf}
 use Rattle.promise.proofs.Lists.{each-map}
 use Rattle.promise.proofs.Views.{SameSlots, sends-kept, receives-kept, receiving-here, receiving-other, slots-hold}
-use Rattle.promise.proofs.Ends.{End, HasCome, Whole, Joined, markWord, sent, got, sends-ok, gets-ok, wide, relay-sides, came-on, said-on, grows-none, flow-as}
+use Rattle.promise.specs.Notes.{HasCome, markWord}
+use Rattle.promise.proofs.Ends.{End, Whole, Joined, sent, got, sends-ok, gets-ok, wide, relay-sides, came-on, said-on, grows-none, flow-as}
 use Rattle.promise.proofs.SendingAnew.{asked-open, more-here, more-other}
 
 module _ {e f : End} (j : Joined e f) (channel : ℕ) (l : Line) (part : List ℕ) (handed : ℕ → List Message) (owes came : List Mark) where

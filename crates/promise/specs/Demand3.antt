@@ -24,7 +24,8 @@ use Rattle.calls.specs.Call as call
 use Rattle.calls.specs.Order.{lineFor}
 use Rattle.promise.specs.Build.{Does, Build}
 use Rattle.promise.specs.Past.{Packet, Past}
-use Rattle.promise.specs.Run.{Gateway, freshWith, does, after, accepts, lineAt, Relays, rankedMark, bound, Honest, Run}
+use Rattle.promise.specs.Run.{Each, Gateway, freshWith, does, after, accepts, lineAt, Relays, rankedMark, bound, Honest, Run}
+use Rattle.promise.specs.Notes.{Noted}
 use Rattle.promise.specs.Promise.{sendsBy, receivesBy, Promised, InRelay, AllCame, Ample, reportBy, AllOut, CanFinish}
 
 -- the call is accepted, and leaves line i open and in modem relay
@@ -68,6 +69,9 @@ pub record Demand3 (b : Build) : Type 0 where
   -- "on each reliable channel, each way, the messages taken for sending are always those handed out, in order and octet for octet, followed by
   -- those still waiting. Each waiting message is held at one end or the other."
   pub promised : {i j identifier kind : ℕ} {g h : Gateway} {p q : Past} → Run (b .does) bound i j identifier kind g p h q → Promised g i p h j q
+  -- what is noted beside each packet, on which the premise is measured, is what its octets say
+  pub noted : {i j identifier kind : ℕ} {g h : Gateway} {p q : Past} → Run (b .does) bound i j identifier kind g p h q
+      → Each (Noted identifier kind (p .taken) (receivesBy g i p)) (p .wrote)
   pub served : {i j identifier kind : ℕ} {g h : Gateway} {p q : Past} → Run (b .does) bound i j identifier kind g p h q → InRelay g i p
       → Served (b .does) bound i j identifier kind g p h q
   pub ends : {i j identifier kind : ℕ} {g h : Gateway} {p q : Past} → Run (b .does) bound i j identifier kind g p h q → InRelay g i p → InRelay h j q

@@ -1,6 +1,7 @@
 pub mod Build
 pub mod Past
 pub mod Run
+pub mod Notes
 pub mod Ends
 pub mod Promise
 pub mod Ours
