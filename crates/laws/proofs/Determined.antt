@@ -1,30 +1,28 @@
--- One input, one outcome: any two outcomes that meet the contract of a public call are one, in the answer, in the book and in what is lent.
--- The contracts are those in the src/lib.rt of gateway, signals, outgoing and incoming: x and y stand for what a call returns, p and q for what it leaves in the slice that is lent.
+-- One input, one outcome: any two outcomes that meet the contract of a call on a book are one, in the answer, in the book and in what is lent.
+-- `open.Reads.Learnt` is the contract of `open` in src/, as the check reads it; so of the others. In a proof x and y are what two calls return, p
+-- and q what they leave behind their references, m and n that they meet the contract.
 -- Assumes nothing.
 use Prim.Native.Nat.{ℕ}
-use mathlib.Core.Path.{_≡_, sym, ap, _∙_}
+use mathlib.Core.Path.{_≡_, refl, sym, ap, _∙_}
 use mathlib.Core.List.{List, []}
 use Rattle.ground.specs.Answer.{Answer, writeSays}
-use Rattle.mode.specs.Acts as act
-use Rattle.mode.specs.Says.{hearSays, askSays, tickSays}
-use Rattle.mode.specs.Tries.{Tries}
 use Rattle.mode.proofs.Determine.{hearSays-once, askSays-once, tickSays-once}
-use Rattle.line.specs.declared.Settings.{Settings}
 use Rattle.book.specs.declared.Book.{Book}
-use Rattle.calls.specs.Call.{Call}
-use Rattle.calls.specs.Call as call
-use Rattle.calls.specs.Result.{CallResult, resultWith, resultOf}
+use Rattle.calls.specs.Result.{CallResult, resultWith}
 use Rattle.calls.specs.declared.Written.{Written}
-use Rattle.outgoing.specs.Says.{takeSays, heldSays}
-use Rattle.outgoing.specs.declared.Taken.{Taken}
-use Rattle.outgoing.specs.declared.HeldAnswer.{HeldAnswer}
-use Rattle.incoming.specs.Says.{arriveSays}
-use Rattle.incoming.specs.declared.Arrived.{Arrived}
-use Rattle.signals.specs.declared.Heard.{Heard}
-use Rattle.signals.specs.declared.Asked.{Asked}
-use Rattle.signals.specs.declared.Ticked.{Ticked}
-use Rattle.gateway.specs.Says.{openSays}
-use Rattle.gateway.specs.declared.Opened.{Opened}
+use Rattle.outgoing.proofs.take
+use Rattle.outgoing.proofs.send
+use Rattle.outgoing.proofs.empty
+use Rattle.outgoing.proofs.held
+use Rattle.incoming.proofs.arrive
+use Rattle.incoming.proofs.hand_out
+use Rattle.signals.proofs.hear
+use Rattle.signals.proofs.ask
+use Rattle.signals.proofs.tick
+use Rattle.gateway.proofs.fresh
+use Rattle.gateway.proofs.open
+use Rattle.gateway.proofs.close
+use Rattle.laws.specs.Determined.{Determined}
 use Rattle.laws.proofs.Answers.{openSays-once, writeSays-once, takeSays-once, arriveSays-once, heldSays-once}
 
 -- what is made up of the same has the same parts
@@ -39,95 +37,72 @@ alike m n =
     let e = m ∙ sym n in
     record { answer = ap (λ (d : CallResult). d .answer) e; book = ap (λ (d : CallResult). d .book) e; store = ap (λ (d : CallResult). d .store) e; out = ap (λ (d : CallResult). d .out) e }
 
--- what an outcome is asked by its contract: of what is not lent nothing is said but that it stays
-abbrev Meets : Answer → Book → Call → Book → Type 0
-Meets answer after c book = (store out : List ℕ) → resultWith answer after store out ≡ resultOf c book store out
-
-abbrev MeetsOut : Answer → Book → List ℕ → Call → Book → List ℕ → Type 0
-MeetsOut answer after p c book out = (store : List ℕ) → resultWith answer after store p ≡ resultOf c book store out
-
-abbrev MeetsStore : Answer → Book → List ℕ → Call → Book → List ℕ → Type 0
-MeetsStore answer after p c book store = (out : List ℕ) → resultWith answer after p out ≡ resultOf c book store out
-
 -- the calls that write into an output
-gave : {x y : Written} {s t p q : List ℕ} {e : CallResult} → resultWith (writeSays (x .answer)) (x .book) s p ≡ e → resultWith (writeSays (y .answer)) (y .book) t q ≡ e → (x ≡ y) × (p ≡ q)
-gave {x} {y} m n =
+gave : (x y : Written) {s t p q : List ℕ} {e : CallResult} → resultWith (writeSays (x .answer)) (x .book) s p ≡ e → resultWith (writeSays (y .answer)) (y .book) t q ≡ e → (x ≡ y) × (p ≡ q)
+gave x y m n =
     let e = alike m n in
     let a = writeSays-once (x .answer) (y .answer) (e .answer) in
     (λ t. record { book = e .book t; answer = a t }, e .out)
 
-module _ (book : Book) (line : ℕ) where
-  pub open-determined : (s : Settings) (time : ℕ) {x y : Opened}
-      → Meets (openSays (x .answer)) (x .book) (call.opening line s time) book
-      → Meets (openSays (y .answer)) (y .book) (call.opening line s time) book → x ≡ y
-  open-determined s time {x} {y} m n =
-      let e = alike (m [] []) (n [] []) in
-      let a = openSays-once (x .answer) (y .answer) (e .answer) in
-      λ t. record { book = e .book t; answer = a t }
+pub fresh-determined : Determined fresh.ended fresh.Reads.Learnt
+fresh-determined κs a x y p q m n = (m ∙ sym n, refl)
 
-  pub close-determined : (out : List ℕ) {x y : Written} {p q : List ℕ}
-      → MeetsOut (writeSays (x .answer)) (x .book) p (call.closing line) book out
-      → MeetsOut (writeSays (y .answer)) (y .book) q (call.closing line) book out → (x ≡ y) × (p ≡ q)
-  close-determined out m n = gave (m []) (n [])
+pub open-determined : Determined open.ended open.Reads.Learnt
+open-determined κs a x y p q m n =
+    let e = alike (m [] []) (n [] []) in
+    let z = openSays-once (x .answer) (y .answer) (e .answer) in
+    (λ t. record { book = e .book t; answer = z t }, refl)
 
-  pub hear-determined : (mode time : ℕ) {x y : Heard}
-      → Meets (hearSays (x .answer)) (x .book) (call.mode line (act.hear mode time)) book
-      → Meets (hearSays (y .answer)) (y .book) (call.mode line (act.hear mode time)) book → x ≡ y
-  hear-determined mode time {x} {y} m n =
-      let e = alike (m [] []) (n [] []) in
-      let a = hearSays-once (x .answer) (y .answer) (e .answer) in
-      λ t. record { book = e .book t; answer = a t }
+pub close-determined : Determined close.ended close.Reads.Learnt
+close-determined κs a x y p q m n =
+    let e = gave x y (m []) (n []) in
+    (e .0, λ t. (tt, (tt, (e .1 t, tt))))
 
-  pub ask-determined : (mode time : ℕ) {x y : Asked}
-      → Meets (askSays (x .answer)) (x .book) (call.mode line (act.ask mode time)) book
-      → Meets (askSays (y .answer)) (y .book) (call.mode line (act.ask mode time)) book → x ≡ y
-  ask-determined mode time {x} {y} m n =
-      let e = alike (m [] []) (n [] []) in
-      let a = askSays-once (x .answer) (y .answer) (e .answer) in
-      λ t. record { book = e .book t; answer = a t }
+pub hear-determined : Determined hear.ended hear.Reads.Learnt
+hear-determined κs a x y p q m n =
+    let e = alike (m [] []) (n [] []) in
+    let z = hearSays-once (x .answer) (y .answer) (e .answer) in
+    (λ t. record { book = e .book t; answer = z t }, refl)
 
-  -- a try is one of 1 to 5: without it Audio 0 would say what Quiet says, and Audio 6 what Ended does
-  pub tick-determined : (time : ℕ) {x y : Ticked} → Tries (x .answer) → Tries (y .answer)
-      → Meets (tickSays (x .answer)) (x .book) (call.mode line (act.tick time)) book
-      → Meets (tickSays (y .answer)) (y .book) (call.mode line (act.tick time)) book → x ≡ y
-  tick-determined time {x} {y} p q m n =
-      let e = alike (m [] []) (n [] []) in
-      let a = tickSays-once (x .answer) (y .answer) p q (e .answer) in
-      λ t. record { book = e .book t; answer = a t }
+pub ask-determined : Determined ask.ended ask.Reads.Learnt
+ask-determined κs a x y p q m n =
+    let e = alike (m [] []) (n [] []) in
+    let z = askSays-once (x .answer) (y .answer) (e .answer) in
+    (λ t. record { book = e .book t; answer = z t }, refl)
 
-  pub take-determined : (store : List ℕ) (channel : ℕ) (message : List ℕ) {x y : Taken} {p q : List ℕ}
-      → MeetsStore (takeSays (x .answer)) (x .book) p (call.taking line channel message) book store
-      → MeetsStore (takeSays (y .answer)) (y .book) q (call.taking line channel message) book store → (x ≡ y) × (p ≡ q)
-  take-determined store channel message {x} {y} m n =
-      let e = alike (m []) (n []) in
-      let a = takeSays-once (x .answer) (y .answer) (e .answer) in
-      (λ t. record { book = e .book t; answer = a t }, e .store)
+-- the contract says besides that a try is one of 1 to 5: without it Audio 0 would say what Quiet says, and Audio 6 what Ended does
+pub tick-determined : Determined tick.ended tick.Reads.Learnt
+tick-determined κs a x y p q m n =
+    let e = alike (m .0 [] []) (n .0 [] []) in
+    let z = tickSays-once (x .answer) (y .answer) (m .1) (n .1) (e .answer) in
+    (λ t. record { book = e .book t; answer = z t }, refl)
 
-  pub send-determined : (store : List ℕ) (channel rank : ℕ) (out : List ℕ) {x y : Written} {p q : List ℕ}
-      → resultWith (writeSays (x .answer)) (x .book) store p ≡ resultOf (call.sending line channel rank) book store out
-      → resultWith (writeSays (y .answer)) (y .book) store q ≡ resultOf (call.sending line channel rank) book store out → (x ≡ y) × (p ≡ q)
-  send-determined store channel rank out m n = gave m n
-
-  pub empty-determined : (channel : ℕ) (out : List ℕ) {x y : Written} {p q : List ℕ}
-      → MeetsOut (writeSays (x .answer)) (x .book) p (call.empty line channel) book out
-      → MeetsOut (writeSays (y .answer)) (y .book) q (call.empty line channel) book out → (x ≡ y) × (p ≡ q)
-  empty-determined channel out m n = gave (m []) (n [])
-
-  pub hand-out-determined : (store : List ℕ) (channel : ℕ) (out : List ℕ) {x y : Written} {p q : List ℕ}
-      → resultWith (writeSays (x .answer)) (x .book) store p ≡ resultOf (call.handOut line channel) book store out
-      → resultWith (writeSays (y .answer)) (y .book) store q ≡ resultOf (call.handOut line channel) book store out → (x ≡ y) × (p ≡ q)
-  hand-out-determined store channel out m n = gave m n
-
-  pub held-determined : (channel : ℕ) {x y : HeldAnswer}
-      → Meets (heldSays x) book (call.report line channel) book
-      → Meets (heldSays y) book (call.report line channel) book → x ≡ y
-  held-determined channel {x} {y} m n = heldSays-once x y (alike (m [] []) (n [] []) .answer)
-
--- a packet names its line itself
-pub arrive-determined : (book : Book) (store packet : List ℕ) {x y : Arrived} {p q : List ℕ}
-    → MeetsStore (arriveSays (x .answer)) (x .book) p (call.arrival packet) book store
-    → MeetsStore (arriveSays (y .answer)) (y .book) q (call.arrival packet) book store → (x ≡ y) × (p ≡ q)
-arrive-determined book store packet {x} {y} m n =
+pub take-determined : Determined take.ended take.Reads.Learnt
+take-determined κs a x y p q m n =
     let e = alike (m []) (n []) in
-    let a = arriveSays-once (x .answer) (y .answer) (e .answer) in
-    (λ t. record { book = e .book t; answer = a t }, e .store)
+    let z = takeSays-once (x .answer) (y .answer) (e .answer) in
+    (λ t. record { book = e .book t; answer = z t }, λ t. (tt, (e .store t, (tt, (tt, (tt, tt))))))
+
+pub send-determined : Determined send.ended send.Reads.Learnt
+send-determined κs a x y p q m n =
+    let e = gave x y m n in
+    (e .0, λ t. (tt, (tt, (tt, (tt, (tt, (e .1 t, tt)))))))
+
+pub empty-determined : Determined empty.ended empty.Reads.Learnt
+empty-determined κs a x y p q m n =
+    let e = gave x y (m []) (n []) in
+    (e .0, λ t. (tt, (tt, (tt, (e .1 t, tt)))))
+
+pub held-determined : Determined held.ended held.Reads.Learnt
+held-determined κs a x y p q m n = (heldSays-once x y (alike (m [] []) (n [] []) .answer), refl)
+
+pub arrive-determined : Determined arrive.ended arrive.Reads.Learnt
+arrive-determined κs a x y p q m n =
+    let e = alike (m []) (n []) in
+    let z = arriveSays-once (x .answer) (y .answer) (e .answer) in
+    (λ t. record { book = e .book t; answer = z t }, λ t. (tt, (e .store t, (tt, tt))))
+
+pub hand-out-determined : Determined hand_out.ended hand_out.Reads.Learnt
+hand-out-determined κs a x y p q m n =
+    let e = gave x y m n in
+    (e .0, λ t. (tt, (tt, (tt, (tt, (e .1 t, tt))))))

@@ -7,3 +7,4 @@ pub mod Unread
 pub mod Answers
 pub mod Determined
 pub mod Bodies
+pub mod Steps
