@@ -30,4 +30,6 @@ pub mod Demand1
 pub mod Demand2
 pub mod NotesTrue
 pub mod Demand3
+pub mod AnyWay
+pub mod Witness
 pub mod ReportCounts

@@ -18,6 +18,7 @@ use Rattle.arriving.proofs.Effects.{heard-relaying}
 use Rattle.arriving.proofs.Arrivals.{news-relaying, payload-length, arrive-passes, arrive-size, news-all, part-all, payload-line, payload-part}
 use Rattle.promise.specs.Past.{Mark, Packet, enterAll, heardPast}
 use Rattle.promise.specs.Run.{Each, none, also, bound}
+use Rattle.promise.specs.Run as runs
 use Rattle.promise.specs.Ours.{Recent, Honest}
 use Rattle.promise.proofs.Lists.{each-at}
 use Rattle.promise.specs.Notes.{Carries, nothing, message}
@@ -96,9 +97,9 @@ arrival-joined {e} {f} s k h relaying pass j =
     subst (λ (o : List ℕ). Joined (afterArrival e k o) f) (h .same)
     (heard-joined relaying j k (each-at (h .written) (j .yours .said)) (rw (h .same) pass) (h .carries) (h .names) (h .acks))
 
--- and none of the tests refuses it where the two have one payload type
-pub arrival-passes : {e f : End} (s : List ℕ) (k : Packet) → Honest (e .past) (f .past) s k → e .line .modes .local ≡ modem → f .line .kind ≡ e .line .kind → Joined e f
+-- and none of the tests refuses it where the two have one payload type, however old it is
+pub arrival-passes : {within : ℕ} {e f : End} (s : List ℕ) (k : Packet) → runs.Honest within (e .past) (f .past) s k → e .line .modes .local ≡ modem → f .line .kind ≡ e .line .kind → Joined e f
     → (verdict (headTests s) ≡ Pass) × (verdict (arriveTests (e .line) s) ≡ Pass)
-arrival-passes {e} {f} s k h inside same j =
+arrival-passes {e = e} {f} s k h inside same j =
     subst (λ (o : List ℕ). (verdict (headTests o) ≡ Pass) × (verdict (arriveTests (e .line) o) ≡ Pass)) (h .same)
     (said-passes f (e .line) k (each-at (h .written) (j .yours .said)) same inside)

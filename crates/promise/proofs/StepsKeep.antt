@@ -35,6 +35,7 @@ use Rattle.calls.specs.Result.{effect}
 use Rattle.laws.proofs.Identifiers.{fresh-passes}
 use Rattle.promise.specs.Past.{Packet, Past, nothingYet, heardPast}
 use Rattle.promise.specs.Run.{Gateway, lineAt, partIn, Relays, refused, elsewhere, moded, reported, took, handed, sent, wrote, heard, before, opens, calls, stay, here, there, freshWith}
+use Rattle.promise.specs.Run as runs
 use Rattle.promise.specs.Ours.{Honest, after, Adds, Step, Goes, Run}
 use Rattle.promise.proofs.Lists.{each-at}
 use Rattle.promise.proofs.Ends.{Joined, turn}
@@ -55,9 +56,9 @@ peer-open closed m = absurd (let z = some-member m in omega arith)
 peer-open (unused o u) m = absurd (let z = some-member m in omega arith)
 peer-open (relaying o t r) m = (t, o)
 
--- A packet arrives in modem relay that the peer wrote: it finds its line, and no test refuses it.
-module _ {i j identifier kind : ℕ} {g h : Gateway} {p q : Past} (s : Sound i identifier kind g p) (t : Sound j identifier kind h q) (opened : p .opened ≡ true) (k : Joined (endOf g i p) (endOf h j q))
-    (o : List ℕ) (packet : Packet) (r : Relays g i) (honest : Honest p q o packet) (out : List ℕ) where
+-- A packet arrives in modem relay that the peer wrote: it finds its line, and no test refuses it, however old it is.
+module _ {within i j identifier kind : ℕ} {g h : Gateway} {p q : Past} (s : Sound i identifier kind g p) (t : Sound j identifier kind h q) (opened : p .opened ≡ true) (k : Joined (endOf g i p) (endOf h j q))
+    (o : List ℕ) (packet : Packet) (r : Relays g i) (honest : runs.Honest within p q o packet) (out : List ℕ) where
   own : Open identifier kind (lineAt g i)
   own = is-open (s .phase) opened
 
@@ -89,16 +90,31 @@ module _ {i j identifier kind : ℕ} {g h : Gateway} {p q : Past} (s : Sound i i
       (verdict-on (headTests o) (must (isSomebody (packetLine b o)) NOLINE ∷ []) (asks .0) ∙ rw found)
       ∙ ap (λ (x : Owner). verdict (arriveTests (lineOf b (order.lineAt x)) o)) found ∙ asks .1
 
-  pub heard-kept : LeftIn i identifier kind (endOf h j q) (after g (call.arrival o) out) (heardPast p packet)
+  abbrev pub comes : Call
+  comes = call.arrival o
+
+  relaying-now : Relaying (lineAt g i)
+  relaying-now = record { fits = line-fits (g .book) (s .fits) i; opened = own .opened; inside = r }
+
+  -- what it leaves of the line, and of its part of the store
+  pub heard-line : lineAt (after g comes out) i ≡ arrivedLine (lineAt g i) o
   unfolding effect
-  heard-kept =
-      let c = call.arrival o in
-      let w = arrived-stays (lineAt g i) o in
-      let relaying : Relaying (lineAt g i) = record { fits = line-fits (g .book) (s .fits) i; opened = own .opened; inside = r } in
-      left-in s opened k out (after g c out) (arrivedLine (lineAt g i) o) (arrivedPart (lineAt g i) o (partIn g i)) (heardPast p packet) opened
-      (line-left s c out arrives-here arrival-tests) (part-left s c out arrives-here arrival-tests
-      (sym (arrived-in-store (lineAt g i) relaying (partStart (g .book) i) (g .store) (part-in (g .book) (g .store) (s .long) i (s .small)) o (asks .1))) (arrived-part-length (lineAt g i) o (partIn g i)))
-      w r (arrival-joined o packet honest relaying (asks .1) (joined-open s opened k out))
+  heard-line = line-left s comes out arrives-here arrival-tests
+
+  pub heard-part : partIn (after g comes out) i ≡ arrivedPart (lineAt g i) o (partIn g i)
+  unfolding effect
+  heard-part =
+      part-left s comes out arrives-here arrival-tests
+      (sym (arrived-in-store (lineAt g i) relaying-now (partStart (g .book) i) (g .store) (part-in (g .book) (g .store) (s .long) i (s .small)) o (asks .1))) (arrived-part-length (lineAt g i) o (partIn g i))
+
+-- one that is as young as the promise asks keeps the two ends joined
+pub heard-kept : {i j identifier kind : ℕ} {g h : Gateway} {p q : Past} (s : Sound i identifier kind g p) (t : Sound j identifier kind h q) (opened : p .opened ≡ true) (k : Joined (endOf g i p) (endOf h j q))
+    (o : List ℕ) (packet : Packet) (r : Relays g i) (honest : Honest p q o packet) (out : List ℕ) → LeftIn i identifier kind (endOf h j q) (after g (call.arrival o) out) (heardPast p packet)
+heard-kept {i} {g = g} {p = p} s t opened k o packet r honest out =
+    left-in s opened k out (after g (call.arrival o) out) (arrivedLine (lineAt g i) o) (arrivedPart (lineAt g i) o (partIn g i)) (heardPast p packet) opened
+    (heard-line s t opened k o packet r honest out) (heard-part s t opened k o packet r honest out)
+    (arrived-stays (lineAt g i) o) r
+    (arrival-joined o packet honest (relaying-now s t opened k o packet r honest out) (asks s t opened k o packet r honest out .1) (joined-open s opened k out))
 
 -- what holds of the two at all times
 pub record Pair (i j identifier kind : ℕ) (g : Gateway) (p : Past) (h : Gateway) (q : Past) : Type 0 where

@@ -5,6 +5,7 @@ pub mod Notes
 pub mod Ends
 pub mod Promise
 pub mod Ours
+pub mod Witness
 pub mod Demand3
 pub mod Demand1
 pub mod Demand2
