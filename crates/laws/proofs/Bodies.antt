@@ -22,7 +22,7 @@ use Rattle.slip.proofs.write as slip-write
 use Rattle.moves.proofs.hear
 use Rattle.moves.proofs.ask
 use Rattle.moves.proofs.tick
-use Rattle.laws.specs.Determined.{Determined}
+use Rattle.laws.specs.Contract.{Determined}
 
 -- two outcomes that meet a writer's contract are one, and so is what they leave in the output
 once : {ts : List Test} {octets before p q : List ℕ} (x y : WriteAnswer) → Writes ts octets before p x → Writes ts octets before q y → (x ≡ y) × (p ≡ q)

@@ -22,7 +22,7 @@ use Rattle.signals.proofs.tick
 use Rattle.gateway.proofs.fresh
 use Rattle.gateway.proofs.open
 use Rattle.gateway.proofs.close
-use Rattle.laws.specs.Determined.{Determined}
+use Rattle.laws.specs.Contract.{Determined}
 use Rattle.laws.proofs.Answers.{openSays-once, writeSays-once, takeSays-once, arriveSays-once, heldSays-once}
 
 -- what is made up of the same has the same parts

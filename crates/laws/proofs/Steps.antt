@@ -41,7 +41,7 @@ use Rattle.calls.proofs.store_line_verdict
 use Rattle.calls.proofs.may_open
 use Rattle.calls.proofs.may_close
 use Rattle.calls.proofs.open_line_verdict
-use Rattle.laws.specs.Determined.{Determined}
+use Rattle.laws.specs.Contract.{Determined}
 
 -- refusals
 pub number-determined : Determined number.ended number.Reads.Learnt

@@ -1,2 +1,2 @@
 pub mod Reached
-pub mod Determined
+pub mod Contract
