@@ -62,8 +62,11 @@ called-passes (c ∷ cs) g k =
     called-passes cs (record { book = d .book; store = d .store }) (every-call-keeps c (g .book) (g .store) [] (k .0) (k .1))
 
 -- of a fresh one
-abbrev made : List Call → Gateway
+abbrev pub made : List Call → Gateway
 made = called (freshWith zeros)
+
+pub made-passes : (cs : List Call) → Passes (made cs .book)
+made-passes cs = called-passes cs (freshWith zeros) fresh-passes
 
 -- it is long enough
 pub zeros-long : storeLength freshBook ≤ length zeros
@@ -71,7 +74,7 @@ zeros-long = let e : storeOctets ≤ length zeros = lit≤ tt in omega (arith, s
 
 ready : (cs : List Call) → isOpen (lineAt (made cs) 0) ≡ true → storeOctets ≤ length (made cs .store) → Ready (made cs) 0
 ready cs e l =
-    let k = called-passes cs (freshWith zeros) fresh-passes in
+    let k = made-passes cs in
     record { fits = k .0; shaped = k .1; long = omega (arith, store-length (made cs .book)); small = lit< tt; opened = e }
 
 -- line 0 is opened, and a request brings it into modem relay

@@ -1,5 +1,6 @@
 pub mod Idle
 pub mod IdlePackets
+pub mod Careless
 pub mod IdleRuns
 pub mod Ignoring
 pub mod LineByCaller
