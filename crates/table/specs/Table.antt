@@ -1,5 +1,6 @@
 -- Document 01's 'Table to prove', row by row, as theorems about the definitions that the code is proved to meet.
--- Each holds by computation: the definition, run on the row's numbers, gives the row's answer.
+-- Each holds by computation: the definition, run on the row's numbers, gives the row's answer. Rows 6 and 7, which speak of one side of a channel, stand
+-- here for that side; as calls on a book they stand in Books.
 -- Assumes nothing.
 use mathlib.Core.Path.{_≡_, refl, ap}
 use mathlib.Core.Bool.{true, false}
