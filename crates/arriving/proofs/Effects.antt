@@ -65,7 +65,7 @@ module _ (l : Line) (k : Relaying l) where
         let n = sent-news l channel s .stays in
         record {
           fits = ok-line (withSending l channel s) (with-sending-ok l ok (k .inside) channel s f);
-          opened = n .opened ∙ k .opened;
+          opened = n .opening .opened ∙ k .opened;
           inside = ap (λ (m : Modes). m .local) (n .modes) ∙ k .inside;
         }
 

@@ -123,7 +123,7 @@ module _ (l : Line) (k : Relaying l) (h : Shaped l) (channel number : ℕ) (c : 
       let s = stored-stays l channel number size in
       record {
         fits = ok-line (withReceiving (owingLine l channel number) channel m) (with-receiving-ok (owingLine l channel number) owing-ok (k .inside) channel m fit);
-        opened = s .opened ∙ k .opened;
+        opened = s .opening .opened ∙ k .opened;
         inside = ap (λ (x : Modes). x .local) (s .modes) ∙ k .inside;
       }
 

@@ -19,8 +19,9 @@ use Rattle.line.specs.Fit.{lineFits}
 use Rattle.line.specs.Shape.{Shaped}
 use Rattle.line.specs.declared.Line.{Line}
 use Rattle.line.proofs.Keeps.{closed-fits}
+use Rattle.line.proofs.Same.{SameOpening}
 use Rattle.line.proofs.Shape.{closed-shaped}
-use Rattle.book.specs.Book.{openIn, lineOf, withLine, restingOf, bookFits, taken}
+use Rattle.book.specs.Book.{identifierOf, openIn, lineOf, withLine, restingOf, bookFits, taken}
 use Rattle.book.specs.Closing.{closedAt}
 use Rattle.book.specs.Shape.{BookShaped}
 use Rattle.book.specs.declared.Book.{Book}
@@ -28,33 +29,34 @@ use Rattle.book.proofs.LineAnew.{set-by, lines-set, open-same, open-clo
 use Rattle.book.proofs.Facts.{book-ok, ok-book, line-span, line-fits}
 use Rattle.book.proofs.Closing.{closed-resting}
 
--- a line anew, open or closed as it was and with its identifier
-pub with-line-keeps : (b : Book) → bookFits b ≡ true → (i : ℕ) (l : Line) → lineFits l ≡ true → isOpen l ≡ isOpen (lineOf b i) → l .identifier ≡ lineOf b i .identifier
-    → bookFits (withLine b i l) ≡ true
-with-line-keeps b f i l g o e =
+-- a line anew, open or closed as it was and with what its opening named
+pub with-line-keeps : (b : Book) → bookFits b ≡ true → (i : ℕ) (l : Line) → lineFits l ≡ true → SameOpening (lineOf b i) l → bookFits (withLine b i l) ≡ true
+unfolding openIn
+with-line-keeps b f i l g same =
     let k = book-ok b f in
     ok-book (withLine b i l) (record {
       lines = lines-set (b .lines) i l (k .lines) g;
       few = k .few;
       spans = k .spans;
-      once = ap (λ (xs : List ℕ). noTwice (xs ++ restingOf b)) (open-same (b .lines) i l o e) ∙ k .once;
+      once = ap (λ (xs : List ℕ). noTwice (xs ++ restingOf b)) (open-same identifierOf (b .lines) i l (same .opened) (same .identifier)) ∙ k .once;
     })
 
 -- a closed line opened, with an identifier that is not taken
 pub opened-keeps : (b : Book) → bookFits b ≡ true → BookShaped b → (i : ℕ) → i < 4 → isOpen (lineOf b i) ≡ false
     → (l : Line) → isOpen l ≡ true → lineFits l ≡ true → taken b (l .identifier) ≡ false → bookFits (withLine b i l) ≡ true
+unfolding openIn
 opened-keeps b f s i h c l o g t =
     let k = book-ok b f in
     ok-book (withLine b i l) (record {
       lines = lines-set (b .lines) i l (k .lines) g;
       few = k .few;
       spans = k .spans;
-      once = once-open (b .lines) (restingOf b) i l (omega (arith, s .lines)) o ∙ rw (open-closed closedLine refl (b .lines) i c, t) (k .once);
+      once = once-open identifierOf (b .lines) (restingOf b) i l (omega (arith, s .lines)) o ∙ rw (open-closed identifierOf closedLine refl (b .lines) i c, t) (k .once);
     })
 
 -- an open line closed, its identifier at rest
 pub closed-keeps : (b : Book) → bookFits b ≡ true → BookShaped b → (i : ℕ) → i < 4 → isOpen (lineOf b i) ≡ true → bookFits (closedAt b i) ≡ true
-unfolding closedAt allSpan
+unfolding closedAt allSpan openIn
 closed-keeps b f s i h o =
     let k = book-ok b f in
     let x = lineOf b i .identifier in
@@ -62,7 +64,7 @@ closed-keeps b f s i h o =
     let m = r ++ (x ∷ []) in
     let others = openIn (set (b .lines) i closedLine) in
     let whole : noTwice (openIn (set (b .lines) i (lineOf b i)) ++ r) ≡ true = rw (set-getD (b .lines) i closedLine) (k .once) in
-    let e = both-true (not (member x (others ++ r))) (noTwice (others ++ r)) (sym (once-open (b .lines) r i (lineOf b i) (omega (arith, s .lines)) o) ∙ whole) in
+    let e = both-true (not (member x (others ++ r))) (noTwice (others ++ r)) (sym (once-open identifierOf (b .lines) r i (lineOf b i) (omega (arith, s .lines)) o) ∙ whole) in
     let last : noTwice (others ++ m) ≡ true = rw (← append-assoc others r (x ∷ []), twice-last x (others ++ r), e .1, not-true (member x (others ++ r)) (e .0)) in
     ok-book (closedAt b i) (record {
       lines = lines-set (b .lines) i closedLine (k .lines) (closed-fits closedLine refl);

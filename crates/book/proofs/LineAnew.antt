@@ -1,4 +1,4 @@
--- One line among the lines, and one identifier among others: what changes where a line is put anew.
+-- One line among the lines, and one number among others: what changes where a line is put anew. What is said of keys is said of any key.
 -- Assumes nothing.
 use Prim.Native.Nat.{ℕ, zero, suc, _<_}
 use mathlib.Core.Path.{_≡_, refl, sym, ap, ap₂, _∙_}
@@ -17,7 +17,7 @@ use Rattle.owed.proofs.Lists.{eqb-turn}
 use Rattle.line.specs.Line.{isOpen, closedLine}
 use Rattle.line.specs.Fit.{lineFits}
 use Rattle.line.specs.declared.Line.{Line}
-use Rattle.book.specs.Book.{openIn, linesFit, ownerFrom}
+use Rattle.book.specs.Book.{openKeys, linesFit, ownerBy}
 use Rattle.book.specs.declared.Owner.{Owner}
 use Rattle.book.specs.declared.Owner.the-variants.{At}
 
@@ -38,64 +38,15 @@ lines-set (x ∷ ls) (suc i) l f g =
     let b = both-true (lineFits x) (linesFit ls) f in
     rw (b .0) (lines-set ls i l (b .1) g)
 
--- A line put anew that is open or closed as it was, with its identifier.
-pub open-same : (ls : List Line) (i : ℕ) (l : Line) → isOpen l ≡ isOpen (getD ls i closedLine) → l .identifier ≡ getD ls i closedLine .identifier → openIn (set ls i l) ≡ openIn ls
-unfolding openIn
-open-same [] i l o e = refl
-open-same (x ∷ ls) zero l o e = ap₂ (λ (t : Bool) (y : ℕ). pick t (y ∷ openIn ls) (openIn ls)) o e
-open-same (x ∷ ls) (suc i) l o e = ap (λ (xs : List ℕ). pick (isOpen x) (x .identifier ∷ xs) xs) (open-same ls i l o e)
-
 -- A closed line put in a closed line's place.
-module _ (l : Line) (c : isOpen l ≡ false) where
-  pub open-closed : (ls : List Line) (i : ℕ) → isOpen (getD ls i closedLine) ≡ false → openIn (set ls i l) ≡ openIn ls
-  unfolding openIn
-  open-closed [] i o = refl
-  open-closed (x ∷ ls) zero o = rw (c, o)
-  open-closed (x ∷ ls) (suc i) o = ap (λ (xs : List ℕ). pick (isOpen x) (x .identifier ∷ xs) xs) (open-closed ls i o)
+pub lines-closed : (l : Line) → isOpen l ≡ false → (ls : List Line) (i : ℕ) → isOpen (getD ls i closedLine) ≡ false → l .opened ≡ getD ls i closedLine .opened
+    → linesFit (set ls i l) ≡ linesFit ls
+unfolding linesFit lineFits
+lines-closed l c [] i o e = refl
+lines-closed l c (x ∷ ls) zero o e = rw (c, o) (ap (λ (n : ℕ). eqb n 0 && linesFit ls) e)
+lines-closed l c (x ∷ ls) (suc i) o e = ap (λ (t : Bool). lineFits x && t) (lines-closed l c ls i o e)
 
-  pub lines-closed : (ls : List Line) (i : ℕ) → isOpen (getD ls i closedLine) ≡ false → l .opened ≡ getD ls i closedLine .opened → linesFit (set ls i l) ≡ linesFit ls
-  unfolding linesFit lineFits
-  lines-closed [] i o e = refl
-  lines-closed (x ∷ ls) zero o e = rw (c, o) (ap (λ (n : ℕ). eqb n 0 && linesFit ls) e)
-  lines-closed (x ∷ ls) (suc i) o e = ap (λ (t : Bool). lineFits x && t) (lines-closed ls i o e)
-
-  pub whose-closed : (k : ℕ) (ls : List Line) (i x : ℕ) → isOpen (getD ls i closedLine) ≡ false → ownerFrom k (set ls i l) x ≡ ownerFrom k ls x
-  unfolding ownerFrom
-  whose-closed k [] i x o = refl
-  whose-closed k (y ∷ ls) zero x o = rw (c, o)
-  whose-closed k (y ∷ ls) (suc i) x o = ap (λ (w : Owner). pick (isOpen y && eqb (y .identifier) x) (At k) w) (whose-closed (suc k) ls i x o)
-
--- An open line's identifier is among those that are open.
-pub open-member : (ls : List Line) (i : ℕ) → i < length ls → isOpen (getD ls i closedLine) ≡ true → member (getD ls i closedLine .identifier) (openIn ls) ≡ true
-unfolding openIn member
-open-member [] i h o = absurd (omega arith)
-open-member (x ∷ ls) zero h o = rw (o, eq-eqb (x .identifier) (x .identifier) refl)
-open-member (x ∷ ls) (suc i) h o = go (isOpen x) (open-member ls i (omega arith) o)
-  where
-    y : ℕ
-    y = getD ls i closedLine .identifier
-
-    go : (t : Bool) → member y (openIn ls) ≡ true → member y (pick t (x .identifier ∷ openIn ls) (openIn ls)) ≡ true
-    go true e = rw e (or-true (eqb (x .identifier) y))
-    go false e = e
-
--- The open identifiers around a line.
-open-append : (a b : List Line) → openIn (a ++ b) ≡ openIn a ++ openIn b
-unfolding openIn
-open-append [] b = refl
-open-append (l ∷ a) b = go (isOpen l) (open-append a b)
-  where
-    go : (t : Bool) → openIn (a ++ b) ≡ openIn a ++ openIn b
-        → pick t (l .identifier ∷ openIn (a ++ b)) (openIn (a ++ b)) ≡ pick t (l .identifier ∷ openIn a) (openIn a) ++ openIn b
-    go true e = ap (λ (xs : List ℕ). l .identifier ∷ xs) e
-    go false e = e
-
-open-set : (ls : List Line) (i : ℕ) (l : Line) → i < length ls
-    → openIn (set ls i l) ≡ openIn (take i ls) ++ pick (isOpen l) (l .identifier ∷ openIn (drop (suc i) ls)) (openIn (drop (suc i) ls))
-unfolding openIn
-open-set ls i l h = ap openIn (set-split ls i l h) ∙ open-append (take i ls) (l ∷ drop (suc i) ls)
-
--- An identifier between others: none is there twice if it is not among the others, and none of those is.
+-- A number between others: none is there twice if it is not among the others, and none of those is.
 member-insert : (y x : ℕ) (a c : List ℕ) → member y (a ++ (x ∷ c)) ≡ (eqb x y || member y (a ++ c))
 unfolding member
 member-insert y x [] c = refl
@@ -119,16 +70,68 @@ once-insert x (z ∷ a) c =
     turn false true false s = refl
     turn false false r s = refl
 
--- an open line among the lines, and those that rest: its identifier, and all others
-pub once-open : (ls : List Line) (r : List ℕ) (i : ℕ) (l : Line) → i < length ls → isOpen l ≡ true
-    → noTwice (openIn (set ls i l) ++ r) ≡ (not (member (l .identifier) (openIn (set ls i closedLine) ++ r)) && noTwice (openIn (set ls i closedLine) ++ r))
-once-open ls r i l h o =
-    let a = openIn (take i ls) in
-    let c = openIn (drop (suc i) ls) in
-    rw (open-set ls i l h, open-set ls i closedLine h, o, append-assoc a (l .identifier ∷ c) r, append-assoc a c r) (once-insert (l .identifier) a (c ++ r))
-
 -- what is there once is so without the first of the rest
 pub once-less : (k : ℕ) (a m : List ℕ) → noTwice (a ++ m) ≡ true → noTwice (a ++ drop k m) ≡ true
 once-less zero a m e = e
 once-less (suc k) a [] e = e
 once-less (suc k) a (x ∷ m) e = once-less k a m (both-true (not (member x (a ++ m))) (noTwice (a ++ m)) (sym (once-insert x a m) ∙ e) .1)
+
+module _ (key : Line → ℕ) where
+  -- A line put anew that is open or closed as it was, with its key.
+  pub open-same : (ls : List Line) (i : ℕ) (l : Line) → isOpen l ≡ isOpen (getD ls i closedLine) → key l ≡ key (getD ls i closedLine) → openKeys key (set ls i l) ≡ openKeys key ls
+  unfolding openKeys
+  open-same [] i l o e = refl
+  open-same (x ∷ ls) zero l o e = ap₂ (λ (t : Bool) (y : ℕ). pick t (y ∷ openKeys key ls) (openKeys key ls)) o e
+  open-same (x ∷ ls) (suc i) l o e = ap (λ (xs : List ℕ). pick (isOpen x) (key x ∷ xs) xs) (open-same ls i l o e)
+
+  -- A closed line put in a closed line's place.
+  module _ (l : Line) (c : isOpen l ≡ false) where
+    pub open-closed : (ls : List Line) (i : ℕ) → isOpen (getD ls i closedLine) ≡ false → openKeys key (set ls i l) ≡ openKeys key ls
+    unfolding openKeys
+    open-closed [] i o = refl
+    open-closed (x ∷ ls) zero o = rw (c, o)
+    open-closed (x ∷ ls) (suc i) o = ap (λ (xs : List ℕ). pick (isOpen x) (key x ∷ xs) xs) (open-closed ls i o)
+
+    pub whose-closed : (k : ℕ) (ls : List Line) (i x : ℕ) → isOpen (getD ls i closedLine) ≡ false → ownerBy key k (set ls i l) x ≡ ownerBy key k ls x
+    unfolding ownerBy
+    whose-closed k [] i x o = refl
+    whose-closed k (y ∷ ls) zero x o = rw (c, o)
+    whose-closed k (y ∷ ls) (suc i) x o = ap (λ (w : Owner). pick (isOpen y && eqb (key y) x) (At k) w) (whose-closed (suc k) ls i x o)
+
+  -- An open line's key is among those that are open.
+  pub open-member : (ls : List Line) (i : ℕ) → i < length ls → isOpen (getD ls i closedLine) ≡ true → member (key (getD ls i closedLine)) (openKeys key ls) ≡ true
+  unfolding openKeys member
+  open-member [] i h o = absurd (omega arith)
+  open-member (x ∷ ls) zero h o = rw (o, eq-eqb (key x) (key x) refl)
+  open-member (x ∷ ls) (suc i) h o = go (isOpen x) (open-member ls i (omega arith) o)
+    where
+      y : ℕ
+      y = key (getD ls i closedLine)
+
+      go : (t : Bool) → member y (openKeys key ls) ≡ true → member y (pick t (key x ∷ openKeys key ls) (openKeys key ls)) ≡ true
+      go true e = rw e (or-true (eqb (key x) y))
+      go false e = e
+
+  -- The open keys around a line.
+  open-append : (a b : List Line) → openKeys key (a ++ b) ≡ openKeys key a ++ openKeys key b
+  unfolding openKeys
+  open-append [] b = refl
+  open-append (l ∷ a) b = go (isOpen l) (open-append a b)
+    where
+      go : (t : Bool) → openKeys key (a ++ b) ≡ openKeys key a ++ openKeys key b
+          → pick t (key l ∷ openKeys key (a ++ b)) (openKeys key (a ++ b)) ≡ pick t (key l ∷ openKeys key a) (openKeys key a) ++ openKeys key b
+      go true e = ap (λ (xs : List ℕ). key l ∷ xs) e
+      go false e = e
+
+  open-set : (ls : List Line) (i : ℕ) (l : Line) → i < length ls
+      → openKeys key (set ls i l) ≡ openKeys key (take i ls) ++ pick (isOpen l) (key l ∷ openKeys key (drop (suc i) ls)) (openKeys key (drop (suc i) ls))
+  unfolding openKeys
+  open-set ls i l h = ap (openKeys key) (set-split ls i l h) ∙ open-append (take i ls) (l ∷ drop (suc i) ls)
+
+  -- an open line among the lines, and others that count: its key, and all others
+  pub once-open : (ls : List Line) (r : List ℕ) (i : ℕ) (l : Line) → i < length ls → isOpen l ≡ true
+      → noTwice (openKeys key (set ls i l) ++ r) ≡ (not (member (key l) (openKeys key (set ls i closedLine) ++ r)) && noTwice (openKeys key (set ls i closedLine) ++ r))
+  once-open ls r i l h o =
+      let a = openKeys key (take i ls) in
+      let c = openKeys key (drop (suc i) ls) in
+      rw (open-set ls i l h, open-set ls i closedLine h, o, append-assoc a (key l ∷ c) r, append-assoc a c r) (once-insert (key l) a (c ++ r))

@@ -12,7 +12,7 @@ use Rattle.book.proofs.RestingTurns.{left}
 use Rattle.line.specs.Line.{isOpen}
 use Rattle.line.specs.Fit.{lineFits}
 use Rattle.line.specs.declared.Line.{Line}
-use Rattle.book.specs.Book.{openIn, linesFit, ownerFrom}
+use Rattle.book.specs.Book.{openKeys, linesFit, ownerBy}
 use Rattle.book.specs.declared.Owner.the-variants.{At, Nobody}
 
 -- an array of structs has as many elements as its declaration says
@@ -25,17 +25,8 @@ getD-any [] i d e h = absurd (omega arith)
 getD-any (x ∷ l) zero d e h = refl
 getD-any (x ∷ l) (suc i) d e h = getD-any l i d e (omega arith)
 
+-- the line fits, or it does not
 module _ (ls : List Line) (i : ℕ) (d : Line) (h : i < length ls) where
-  -- the line has the identifier, or another has
-  pub whose-here : (x : ℕ) → (isOpen (getD ls i d) && eqb (getD ls i d .identifier) x) ≡ true → ownerFrom i (drop i ls) x ≡ At i
-  unfolding ownerFrom
-  whose-here x e = rw (left ls i d h, e)
-
-  pub whose-on : (x : ℕ) → (isOpen (getD ls i d) && eqb (getD ls i d .identifier) x) ≡ false → ownerFrom (i + 1) (drop (i + 1) ls) x ≡ ownerFrom i (drop i ls) x
-  unfolding ownerFrom
-  whose-on x e = sym (rw (left ls i d h, e, ← add-one i))
-
-  -- the line fits, or it does not
   pub lines-on : lineFits (getD ls i d) ≡ true → linesFit (drop (i + 1) ls) ≡ linesFit (drop i ls)
   unfolding linesFit
   lines-on e = sym (rw (left ls i d h, e))
@@ -44,25 +35,37 @@ module _ (ls : List Line) (i : ℕ) (d : Line) (h : i < length ls) where
   unfolding linesFit
   lines-lost e = rw (left ls i d h, e)
 
-  -- the line is open, or it is closed
-  pub open-here : isOpen (getD ls i d) ≡ true → openIn (drop i ls) ≡ getD ls i d .identifier ∷ openIn (drop (i + 1) ls)
-  unfolding openIn
-  open-here e = rw (left ls i d h, e)
+pub lines-end : (ls : List Line) (i : ℕ) → length ls ≤ i → linesFit (drop i ls) ≡ true
+unfolding linesFit
+lines-end ls i h = rw (drop-of-length-le ls h)
 
-  pub open-on : isOpen (getD ls i d) ≡ false → openIn (drop i ls) ≡ openIn (drop (i + 1) ls)
-  unfolding openIn
-  open-on e = rw (left ls i d h, e)
+-- by any key of a line
+module _ (key : Line → ℕ) (ls : List Line) (i : ℕ) where
+  module _ (d : Line) (h : i < length ls) where
+    -- the line has it, or another has
+    pub whose-here : (x : ℕ) → (isOpen (getD ls i d) && eqb (key (getD ls i d)) x) ≡ true → ownerBy key i (drop i ls) x ≡ At i
+    unfolding ownerBy
+    whose-here x e = rw (left ls i d h, e)
 
--- no line is left
-module _ (ls : List Line) (i : ℕ) (h : length ls ≤ i) where
-  pub whose-end : (x : ℕ) → ownerFrom i (drop i ls) x ≡ Nobody
-  unfolding ownerFrom
-  whose-end x = rw (drop-of-length-le ls h)
+    pub whose-on : (x : ℕ) → (isOpen (getD ls i d) && eqb (key (getD ls i d)) x) ≡ false → ownerBy key (i + 1) (drop (i + 1) ls) x ≡ ownerBy key i (drop i ls) x
+    unfolding ownerBy
+    whose-on x e = sym (rw (left ls i d h, e, ← add-one i))
 
-  pub lines-end : linesFit (drop i ls) ≡ true
-  unfolding linesFit
-  lines-end = rw (drop-of-length-le ls h)
+    -- the line is open, or it is closed
+    pub open-here : isOpen (getD ls i d) ≡ true → openKeys key (drop i ls) ≡ key (getD ls i d) ∷ openKeys key (drop (i + 1) ls)
+    unfolding openKeys
+    open-here e = rw (left ls i d h, e)
 
-  pub open-end : openIn (drop i ls) ≡ []
-  unfolding openIn
-  open-end = rw (drop-of-length-le ls h)
+    pub open-on : isOpen (getD ls i d) ≡ false → openKeys key (drop i ls) ≡ openKeys key (drop (i + 1) ls)
+    unfolding openKeys
+    open-on e = rw (left ls i d h, e)
+
+  -- no line is left
+  module _ (h : length ls ≤ i) where
+    pub whose-end : (x : ℕ) → ownerBy key i (drop i ls) x ≡ Nobody
+    unfolding ownerBy
+    whose-end x = rw (drop-of-length-le ls h)
+
+    pub open-end : openKeys key (drop i ls) ≡ []
+    unfolding openKeys
+    open-end = rw (drop-of-length-le ls h)

@@ -27,10 +27,26 @@ lineOf b i = getD (b .lines) i closedLine
 abbrev pub withLine : Book → ℕ → Line → Book
 withLine b i l = record { lines = set (b .lines) i l; resting = b .resting; rested = b .rested }
 
--- the identifiers of the open lines
+-- A key is a number that a line has from its opening to its closing and that no other open line may have: its identifier. What is asked of
+-- keys is said of any.
+
+-- the keys of the open lines
+unfoldable pub openKeys : (Line → ℕ) → List Line → List ℕ
+openKeys key [] = []
+openKeys key (l ∷ ls) = pick (isOpen l) (key l ∷ openKeys key ls) (openKeys key ls)
+
+-- the open line that has that key: the first from the front, where k lines stand before these
+unfoldable pub ownerBy : (Line → ℕ) → ℕ → List Line → ℕ → Owner
+ownerBy key k [] x = Nobody
+ownerBy key k (l ∷ ls) x = pick (isOpen l && eqb (key l) x) (At k) (ownerBy key (suc k) ls x)
+
+abbrev pub identifierOf : Line → ℕ
+identifierOf l = l .identifier
+
+-- the identifiers of the open lines; where this is unfolded, so is what it says
 unfoldable pub openIn : List Line → List ℕ
-openIn [] = []
-openIn (l ∷ ls) = pick (isOpen l) (l .identifier ∷ openIn ls) (openIn ls)
+unfolding openKeys
+openIn = openKeys identifierOf
 
 -- those that rest, oldest first (RULES 7.6); what stands after them in the array is not read (RULES 15.26)
 abbrev pub restingOf : Book → List ℕ
@@ -49,10 +65,10 @@ linesFit (l ∷ ls) = lineFits l && linesFit ls
 unfoldable pub bookFits : Book → Bool
 bookFits b = allHold (linesFit (b .lines) ∷ leb (b .rested) 16 ∷ allSpan (restingOf b) ∷ noTwice (identifiersOf b) ∷ [])
 
--- the open line that has the identifier (RULES 4.1): the first from the front, where k lines stand before these
+-- the open line that has the identifier (RULES 4.1)
 unfoldable pub ownerFrom : ℕ → List Line → ℕ → Owner
-ownerFrom k [] identifier = Nobody
-ownerFrom k (l ∷ ls) identifier = pick (isOpen l && eqb (l .identifier) identifier) (At k) (ownerFrom (suc k) ls identifier)
+unfolding ownerBy
+ownerFrom = ownerBy identifierOf
 
 abbrev pub ownerOf : Book → ℕ → Owner
 ownerOf b identifier = ownerFrom 0 (b .lines) identifier

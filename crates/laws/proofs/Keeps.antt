@@ -13,7 +13,6 @@ use Rattle.ground.proofs.Verdicts.{passed}
 use Rattle.mode.specs.Moved.{channelsFor}
 use Rattle.mode.specs.Acts.{Act, outcome, after}
 use Rattle.mode.specs.declared.Channels.{Channels}
-use Rattle.mode.specs.declared.Channels.the-variants.{Stay, Fresh, Emptied}
 use Rattle.mode.specs.declared.Modes.{Modes}
 use Rattle.mode.proofs.Fits.{call-keeps}
 use Rattle.mode.proofs.Emptying.{by-local}
@@ -25,6 +24,7 @@ use Rattle.line.specs.Mode.{steppedTo}
 use Rattle.line.specs.Shape.{Shaped}
 use Rattle.line.specs.declared.Line.{Line}
 use Rattle.line.proofs.Keeps.{line-ok, ok-line, opened-ok, stepped-ok}
+use Rattle.line.proofs.Same.{SameOpening, stepped-opening, none-same}
 use Rattle.line.proofs.Shape.{opened-shaped, stepped-shaped}
 use Rattle.store.specs.Store.{slotAt}
 use Rattle.store.specs.declared.Way.the-variants.{Sending}
@@ -59,13 +59,6 @@ use Rattle.incoming.proofs.Passing.{addressed}
 abbrev pub Passes : Book → Type 0
 Passes b = (bookFits b ≡ true) × BookShaped b
 
--- a change of mode leaves whether the line is open, and its identifier
-stepped-same : (l : Line) (m : Modes) (c : Channels) → (isOpen (steppedTo l m c) ≡ isOpen l) × (steppedTo l m c .identifier ≡ l .identifier)
-unfolding steppedTo
-stepped-same l m Stay = (refl, refl)
-stepped-same l m Fresh = (refl, refl)
-stepped-same l m Emptied = (refl, refl)
-
 -- a change of mode keeps an open line that BOOK lets pass
 moved-keeps : (l : Line) (a : Act) → isOpen l ≡ true → lineFits l ≡ true → Shaped l
     → let o = outcome (l .modes) a in (lineFits (steppedTo l (o .modes) (o .channels)) ≡ true) × Shaped (steppedTo l (o .modes) (o .channels))
@@ -91,9 +84,9 @@ empty-keeps l channel space fits shaped e =
     wrote-line-keeps l (t .0) fits (eqb-true _ _ (t .1 .0)) shaped
 
 module _ (b : Book) (fits : bookFits b ≡ true) (shaped : BookShaped b) where
-  -- a line put back that is open as it was, with its identifier, and that BOOK lets pass
-  put-keeps : (i : ℕ) (l : Line) → isOpen l ≡ isOpen (lineOf b i) → l .identifier ≡ lineOf b i .identifier → (lineFits l ≡ true) × Shaped l → Passes (withLine b i l)
-  put-keeps i l o e k = (with-line-keeps b fits i l (k .0) o e, with-line-shaped b shaped i l (k .1))
+  -- a line put back with what its opening named, and that BOOK lets pass
+  put-keeps : (i : ℕ) (l : Line) → SameOpening (lineOf b i) l → (lineFits l ≡ true) × Shaped l → Passes (withLine b i l)
+  put-keeps i l same k = (with-line-keeps b fits i l (k .0) same, with-line-shaped b shaped i l (k .1))
 
   -- what an accepted call leaves, call by call
   done-keeps : (c : Call) (store out : List ℕ) → verdict (tests c b (length store) (length out)) ≡ Pass → Passes (acceptedResult c b store out .book)
@@ -114,36 +107,30 @@ module _ (b : Book) (fits : bookFits b ≡ true) (shaped : BookShaped b) where
       let p = line-passed b i (modeTests l a) e in
       let t = passed (modeTests l a) (p .1) in
       let o = outcome (l .modes) a in
-      let same = stepped-same l (o .modes) (o .channels) in
-      put-keeps i (steppedTo l (o .modes) (o .channels)) (same .0) (same .1) (moved-keeps l a (t .0) (p .0 .line) (shaped .each i))
+      put-keeps i (steppedTo l (o .modes) (o .channels)) (stepped-opening l (o .modes) (o .channels)) (moved-keeps l a (t .0) (p .0 .line) (shaped .each i))
   done-keeps (call.taking i channel message) store out e =
       let l = lineOf b i in
       let n = length message in
       let p = both-passed b (length store) i (takeCallTests l channel n) e in
-      let same = took-line-same l channel n in
-      put-keeps i (tookLine l channel n) (same .opened) (same .identifier) (took-line-keeps l channel n (p .0 .line) (shaped .each i) (p .2))
+      put-keeps i (tookLine l channel n) (took-line-same l channel n .opening) (took-line-keeps l channel n (p .0 .line) (shaped .each i) (p .2))
   done-keeps (call.sending i channel rank) store out e =
       let l = lineOf b i in
       let p = both-passed b (length store) i (sendTests l channel rank (length out)) e in
-      let same = wrote-line-same l in
-      put-keeps i (wroteLine l) (same .opened) (same .identifier) (sent-keeps l channel rank (length out) (p .0 .line) (shaped .each i) (p .2))
+      put-keeps i (wroteLine l) (wrote-line-same l .opening) (sent-keeps l channel rank (length out) (p .0 .line) (shaped .each i) (p .2))
   done-keeps (call.empty i channel) store out e =
       let l = lineOf b i in
       let p = line-passed b i (emptyTests l channel (length out)) e in
-      let same = wrote-line-same l in
-      put-keeps i (wroteLine l) (same .opened) (same .identifier) (empty-keeps l channel (length out) (p .0 .line) (shaped .each i) (p .1))
+      put-keeps i (wroteLine l) (wrote-line-same l .opening) (empty-keeps l channel (length out) (p .0 .line) (shaped .each i) (p .1))
   done-keeps (call.arrival s) store out e =
       let i = lineAt (packetLine b s) in
       let l = lineOf b i in
       let p = addressed b (length store) s e in
-      let same = arrived-stays l s in
-      put-keeps i (arrivedLine l s) (same .opened) (same .identifier) (arrived-line-keeps l s (p .fits) (p .opened) (shaped .each i) (p .line))
+      put-keeps i (arrivedLine l s) (arrived-stays l s .opening) (arrived-line-keeps l s (p .fits) (p .opened) (shaped .each i) (p .line))
   done-keeps (call.handOut i channel) store out e =
       let l = lineOf b i in
       let p = both-passed b (length store) i (handCallTests l channel (length out)) e in
-      let same = handed-line-same l channel in
-      put-keeps i (handedLine l channel) (same .opened) (same .identifier) (handed-line-keeps l channel (length out) (p .0 .line) (shaped .each i) (p .2))
-  done-keeps (call.report i channel) store out e = put-keeps i (lineOf b i) refl refl (line-fits b fits i, shaped .each i)
+      put-keeps i (handedLine l channel) (handed-line-same l channel .opening) (handed-line-keeps l channel (length out) (p .0 .line) (shaped .each i) (p .2))
+  done-keeps (call.report i channel) store out e = put-keeps i (lineOf b i) (none-same (lineOf b i) .opening) (line-fits b fits i, shaped .each i)
 
 -- THE PROMISE: whatever call it is, whatever it names and is lent, and whatever it answers
 pub every-call-keeps : (c : Call) (b : Book) (store out : List ℕ) → bookFits b ≡ true → BookShaped b

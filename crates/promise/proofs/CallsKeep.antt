@@ -90,7 +90,7 @@ module _ {i identifier kind : ℕ} {g : Gateway} {p : Past} (s : Sound i identif
       → Joined (record { line = l; part = part; past = p′ }) f → LeftIn i identifier kind f h p′
   left-in h l part p′ o e t same r k =
       let inside = ap (λ (x : Line). x .modes .local) e ∙ ap (λ (m : Modes). m .local) (same .modes) ∙ r in
-      (inside, (relaying (subst (Open identifier kind) (sym e) (open-same same (is-open (s .phase) opened))) o inside, subst (λ (x : End). Joined x f) (sym (end-now h i p′ o e t)) k))
+      (inside, (relaying (subst (Open identifier kind) (sym e) (open-same (same .opening) (is-open (s .phase) opened))) o inside, subst (λ (x : End). Joined x f) (sym (end-now h i p′ o e t)) k))
 
   pub took-kept : (channel : ℕ) (m : Message) → Passes g (call.taking i channel m) out → LeftIn i identifier kind f (after g (call.taking i channel m) out) (tookPast p channel m)
   unfolding lineFor effect

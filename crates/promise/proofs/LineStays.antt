@@ -20,6 +20,7 @@ use Rattle.line.specs.Line.{openedLine}
 use Rattle.line.specs.Mode.{steppedTo}
 use Rattle.line.specs.declared.Line.{Line}
 use Rattle.line.specs.declared.Settings.{Settings}
+use Rattle.line.proofs.Same.{stepped-opening}
 use Rattle.book.specs.Book.{lineOf, withLine}
 use Rattle.book.specs.Parts.{partOf}
 use Rattle.book.specs.declared.Book.{Book}
@@ -39,7 +40,7 @@ use Rattle.promise.specs.Run.{Gateway, accepts, lineAt, partIn, Relays}
 use Rattle.promise.specs.Ours.{does, after}
 use Rattle.promise.proofs.Ends.{End, Joined}
 use Rattle.promise.proofs.Fresh.{Unused, closed-unused, opened-unused, stepped-unused, unused-joined, moded-joined}
-use Rattle.promise.proofs.Phases.{endOf, Open, Phase, closed, unused, relaying, Sound, long-after, part-there, is-open, end-now, phase-stays, joined-stays}
+use Rattle.promise.proofs.Phases.{endOf, Open, Phase, closed, unused, relaying, Sound, long-after, part-there, is-open, open-same, end-now, phase-stays, joined-stays}
 use Rattle.promise.proofs.OwnLine.{call-passes, call-refused, line-left, part-stays}
 use Rattle.promise.proofs.CallsKeep.{Left}
 
@@ -103,10 +104,7 @@ opens-kept {i} {identifier} {kind} {g} s e {f} j x time out a b t = go (s .phase
 
 -- a change of modes leaves what opening named
 pub stepped-open : {identifier kind : ℕ} (l : Line) (m : Modes) (k : Channels) → Open identifier kind l → Open identifier kind (steppedTo l m k)
-unfolding steppedTo
-stepped-open l m Stay o = record { opened = o .opened; named = o .named; typed = o .typed }
-stepped-open l m Fresh o = record { opened = o .opened; named = o .named; typed = o .typed }
-stepped-open l m Emptied o = record { opened = o .opened; named = o .named; typed = o .typed }
+stepped-open l m k = open-same (stepped-opening l m k)
 
 pub stepped-modes : (l : Line) (m : Modes) (k : Channels) → steppedTo l m k .modes ≡ m
 unfolding steppedTo

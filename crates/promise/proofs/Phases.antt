@@ -12,7 +12,7 @@ use Rattle.line.specs.Line.{isOpen, closedLine}
 use Rattle.line.specs.Part.{partLength}
 use Rattle.line.specs.declared.Line.{Line}
 use Rattle.line.proofs.Keeps.{closed-fits}
-use Rattle.line.proofs.Same.{SameSettings}
+use Rattle.line.proofs.Same.{SameOpening}
 use Rattle.book.specs.Book.{bookFits}
 use Rattle.book.specs.Parts.{storeLength}
 use Rattle.book.specs.Shape.{BookShaped}
@@ -70,8 +70,8 @@ is-open closed e = clash e
 is-open (unused o u) e = o
 is-open (relaying o t r) e = o
 
--- settings that stay
-pub open-same : {identifier kind : ℕ} {l m : Line} → SameSettings l m → Open identifier kind l → Open identifier kind m
+-- what opening named, where it stays
+pub open-same : {identifier kind : ℕ} {l m : Line} → SameOpening l m → Open identifier kind l → Open identifier kind m
 open-same s o = record { opened = s .opened ∙ o .opened; named = s .identifier ∙ o .named; typed = s .kind ∙ o .typed }
 
 -- the end once the line is open, by what its record and its part of the store are

@@ -71,12 +71,12 @@ module _ {e f : End} (j : Joined e f) (channel : ℕ) (l : Line) (part : List �
         mine = record {
           fits = keeps .0;
           shaped = keeps .1;
-          sides = relay-sides l (keeps .0) (n .opened ∙ opened) (ap (λ (m : Modes). m .local) (n .modes) ∙ inside);
+          sides = relay-sides l (keeps .0) (n .opening .opened ∙ opened) (ap (λ (m : Modes). m .local) (n .modes) ∙ inside);
           long = long;
           owed = owed;
           owes = marks (came-on grows) .0;
           came = marks (came-on grows) .1;
-          said = each-map (said-on grows (λ c n x d. d) (n .identifier) (n .kind)) (j .mine .said);
+          said = each-map (said-on grows (λ c n x d. d) (n .opening .identifier) (n .opening .kind)) (j .mine .said);
         };
         yours = j .yours;
         there = λ c r. flow-as (sends-kept (e .part) part (e .line) l c (sends-ok (j .mine .sides) c) (sending c) (out c r)) refl refl refl (j .there c r);

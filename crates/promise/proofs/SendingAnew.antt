@@ -71,12 +71,12 @@ module _ {e f : End} (j : Joined e f) (channel : ℕ) (v : reliable channel ≡ 
         mine = record {
           fits = keeps .0;
           shaped = keeps .1;
-          sides = relay-sides (now .line) (keeps .0) (n .opened ∙ opened) (ap (λ (m : Modes). m .local) (n .modes) ∙ inside);
+          sides = relay-sides (now .line) (keeps .0) (n .opening .opened ∙ opened) (ap (λ (m : Modes). m .local) (n .modes) ∙ inside);
           long = long;
           owed = j .mine .owed;
           owes = each-map (came-on grows) (j .mine .owes);
           came = each-map (came-on grows) (j .mine .came);
-          said = each-map (said-on grows more (n .identifier) (n .kind)) (j .mine .said);
+          said = each-map (said-on grows more (n .opening .identifier) (n .opening .kind)) (j .mine .said);
         };
         yours = j .yours;
         there = apart (λ c. reliable c ≡ true → Flow (sendWindow (e .line) c) (sent now c) (got f c) (taken c) (f .past .handed c)) channel

@@ -2,7 +2,7 @@ use Rattle.book.proofs.Facts.{open-at}
 use Rattle.book.proofs.Once.{Comes, comes-one, comes-end}
 use Rattle.book.proofs.Turns.{many, open-here, open-on, open-end}
 use Rattle.book.specs.Marks.{newIn, marked, none}
-use Rattle.book.specs.Book.{openIn}
+use Rattle.book.specs.Book.{identifierOf, openKeys, openIn}
 use lib.ListN.{length, drop}
 use mathlib.Core.Path.{_≡_, refl}
 use mathlib.Core.Logic.{⊎-elim}
@@ -14,7 +14,7 @@ use Rattle.book.proofs.Book.open_seen.Statement.{statement}
 use Rattle.book.proofs.Book.open_seen.Tie as tie
 
 abbrev Inv-loop : tie.InvT-loop
-Inv-loop self marks₀ once₀ i₀ marks once i = (i ≤ 4) × Comes once marks (openIn (drop i (self .lines))) (newIn none (openIn (self .lines))) (marked none (openIn (self .lines)))
+Inv-loop self marks₀ once₀ i₀ marks once i = (i ≤ 4) × Comes once marks (openKeys identifierOf (drop i (self .lines))) (newIn none (openKeys identifierOf (self .lines))) (marked none (openKeys identifierOf (self .lines)))
 
 abbrev μ-loop : tie.MeasureT-loop
 μ-loop self marks₀ once₀ i₀ marks once i = 4 - i
@@ -67,24 +67,25 @@ loop-again c =
     let s = c .before .before .before in
     let l = c .before .before .loop in
     let ls = s .args .t1 .lines in
-    let t = newIn none (openIn ls) in
-    let n = marked none (openIn ls) in
-    let rest = openIn (drop (l .i + 1) ls) in
+    let t = newIn none (openKeys identifierOf ls) in
+    let n = marked none (openKeys identifierOf ls) in
+    let rest = openKeys identifierOf (drop (l .i + 1) ls) in
     let len = four-lines s in (
       omega arith,
       ⊎-elim
-          (λ w. rw (w .1, w .2) (comes-one (l .once) (l .marks) t n _ rest (rw (open-here ls (l .i) _ (omega arith) (eq-eqb _ _ (w .0 .taken))) at (l .inv .1))))
-          (λ w. rw (w .1, w .2) (rw (open-on ls (l .i) _ (omega arith) (ne-eqb _ _ (w .0 .left))) at (l .inv .1)))
+          (λ w. rw (w .1, w .2) (comes-one (l .once) (l .marks) t n _ rest (rw (open-here identifierOf ls (l .i) _ (omega arith) (eq-eqb _ _ (w .0 .taken))) at (l .inv .1))))
+          (λ w. rw (w .1, w .2) (rw (open-on identifierOf ls (l .i) _ (omega arith) (ne-eqb _ _ (w .0 .left))) at (l .inv .1)))
           (c .if1 .came),
     )
 
 returns : tie.Need-returns Inv-loop μ-loop
+unfolding openIn
 returns c =
     let s = c .before .before in
     let l = c .before .loop in
     let ls = s .args .t1 .lines in
     let len = four-lines s in
-    comes-end (l .once) (l .marks) (newIn none (openIn ls)) (marked none (openIn ls)) (rw (open-end ls (l .i) (omega arith)) at (l .inv .1))
+    comes-end (l .once) (l .marks) (newIn none (openKeys identifierOf ls)) (marked none (openKeys identifierOf ls)) (rw (open-end identifierOf ls (l .i) (omega arith)) at (l .inv .1))
 
 pub open-seen-spec : {M : Type 1} → statement M
 open-seen-spec =

@@ -1,5 +1,5 @@
 use Rattle.book.proofs.Turns.{many, whose-here, whose-on, whose-end}
-use Rattle.book.specs.Book.{ownerFrom, ownerOf}
+use Rattle.book.specs.Book.{identifierOf, ownerBy, ownerFrom}
 use lib.ListN.{length, drop}
 use mathlib.Core.Path.{_≡_, refl, sym, _∙_}
 use Prim.Native.Nat.{_≤_, _-_}
@@ -9,7 +9,7 @@ use Rattle.book.proofs.Book.owner_of.Statement.{statement}
 use Rattle.book.proofs.Book.owner_of.Tie as tie
 
 abbrev Inv-loop : tie.InvT-loop
-Inv-loop identifier self i₀ i = (i ≤ 4) × (ownerFrom i (drop i (self .lines)) identifier ≡ ownerOf self identifier)
+Inv-loop identifier self i₀ i = (i ≤ 4) × (ownerBy identifierOf i (drop i (self .lines)) identifier ≡ ownerBy identifierOf 0 (self .lines) identifier)
 
 abbrev μ-loop : tie.MeasureT-loop
 μ-loop identifier self i₀ i = 4 - i
@@ -36,11 +36,12 @@ cast-t16 : tie.Need-cast-t16 Inv-loop μ-loop
 cast-t16 c = omega arith
 
 returns : tie.Need-returns Inv-loop μ-loop
+unfolding ownerFrom
 returns c =
     let s = c .before .before .before in
     let l = c .before .before .loop in
     let len = four-lines s in
-    sym (whose-here (s .args .t1 .lines) (l .i) _ (omega arith) (s .args .identifier) (c .if1 .taken)) ∙ l .inv .1
+    sym (whose-here identifierOf (s .args .t1 .lines) (l .i) _ (omega arith) (s .args .identifier) (c .if1 .taken)) ∙ l .inv .1
 
 add-i : tie.Need-add-i Inv-loop μ-loop
 add-i c = omega arith
@@ -53,14 +54,15 @@ loop-again c =
     let s = c .before .before .before in
     let l = c .before .before .loop in
     let len = four-lines s in
-    (omega arith, whose-on (s .args .t1 .lines) (l .i) _ (omega arith) (s .args .identifier) (c .if1 .left) ∙ l .inv .1)
+    (omega arith, whose-on identifierOf (s .args .t1 .lines) (l .i) _ (omega arith) (s .args .identifier) (c .if1 .left) ∙ l .inv .1)
 
 returns-2 : tie.Need-returns-2 Inv-loop μ-loop
+unfolding ownerFrom
 returns-2 c =
     let s = c .before .before in
     let l = c .before .loop in
     let len = four-lines s in
-    sym (whose-end (s .args .t1 .lines) (l .i) (omega arith) (s .args .identifier)) ∙ l .inv .1
+    sym (whose-end identifierOf (s .args .t1 .lines) (l .i) (omega arith) (s .args .identifier)) ∙ l .inv .1
 
 pub owner-of-spec : {M : Type 1} → statement M
 owner-of-spec =
