@@ -1,6 +1,6 @@
 #!/usr/bin/env bash
-# No function of the library's face has a `requires`: nobody has to check before a call. And each has a theorem in `laws` that its contract
-# leaves one outcome for one input (RULES 17.1).
+# No function of the library's face has a `requires`: nobody has to check before a call. And each public function of the library, of the face or
+# not, has a theorem in `laws` that its contract leaves one outcome for one input (RULES 17.1); the words that programs print are no part of it.
 # The face is every `pub fn` of every library of crates.txt, save the inner ones named here, whose functions may ask for a fact that
 # BOOK's test gives, or a program. A new crate is of the face until it is named, and is named only while it has such a function.
 set -u
@@ -74,12 +74,13 @@ for crate in "${crates[@]}"; do
     else
         looked=$((looked + 1))
         [ -z "$found" ] || fail "$found"
-        while read -r function; do
-            functions=$((functions + 1))
-            among "$crate.$function" "${proved[@]}" || fail "$crate: no theorem that the contract of $function leaves one outcome"
-        done < <(callable "$crate")
     fi
+    [ "$crate" != words ] || continue
+    while read -r function; do
+        functions=$((functions + 1))
+        among "$crate.$function" "${proved[@]}" || fail "$crate: no theorem that the contract of $function leaves one outcome"
+    done < <(callable "$crate")
 done
 [ "$functions" -gt 0 ] || fail "no function was found"
-echo "the face: no 'requires' in $looked crates, and one outcome for one input by the contracts of $functions functions; ${#inner[@]} are inner"
+echo "the face: no 'requires' in $looked crates, ${#inner[@]} are inner; one outcome for one input by the contracts of $functions functions"
 exit "$bad"

@@ -8,3 +8,5 @@ pub mod Answers
 pub mod Determined
 pub mod Bodies
 pub mod Steps
+pub mod ChannelSteps
+pub mod LineSteps

@@ -41,7 +41,7 @@ two-left true false = refl
 two-left false true = refl
 two-left false false = refl
 
-module _ (s : List ℕ) (o : Octets s) (ok : verdict (readTests s) ≡ Pass) where
+module _ (s : List ℕ) (ok : verdict (readTests s) ≡ Pass) where
   abbrev c : Connect
   c = connectAt s
 
@@ -115,8 +115,8 @@ module _ (s : List ℕ) (o : Octets s) (ok : verdict (readTests s) ≡ Pass) whe
   octets-round = by-length (eqb (compressionAt s) 1) (eqb (compressionAt s) 2) (eqb-true _ _ (tests .1 .1 .0))
 
   -- where the ten bits are 0, as it was read
-  pub octets-back : bitsAt s 54 10 ≡ 0 → connectOctets (connectAt s) ≡ s
-  octets-back e = octets-round ∙ cleared-none s 54 10 room o e
+  pub octets-back : Octets s → bitsAt s 54 10 ≡ 0 → connectOctets (connectAt s) ≡ s
+  octets-back o e = octets-round ∙ cleared-none s 54 10 room o e
 
   -- it may be written, if its modulation is below 31, its error correction below 3, and the output has room: these are the only ones that
   -- are refused (RULES 11.8)
