@@ -30,6 +30,7 @@ pub mod Arrivals
 pub mod ModesStay
 pub mod Demand1
 pub mod Demand2
+pub mod Again
 pub mod NotesTrue
 pub mod Demand3
 pub mod AnyWay

@@ -9,11 +9,13 @@ use denote.Ref.{now}
 use Rattle.ground.specs.Answer.{writeSays}
 use Rattle.mode.specs.Acts as act
 use Rattle.mode.specs.Says.{hearSays, askSays, tickSays}
+use Rattle.book.specs.Book.{freshBook}
 use Rattle.calls.specs.Call as call
 use Rattle.calls.specs.Result.{resultWith}
 use Rattle.outgoing.specs.Says.{takeSays, heldSays}
 use Rattle.incoming.specs.Says.{arriveSays}
 use Rattle.gateway.specs.Says.{openSays}
+use Rattle.gateway.proofs.fresh
 use Rattle.gateway.proofs.open
 use Rattle.gateway.proofs.close
 use Rattle.gateway.proofs.hear
@@ -27,6 +29,10 @@ use Rattle.gateway.proofs.arrive
 use Rattle.gateway.proofs.hand_out
 use Rattle.laws.specs.Contract.{Promises}
 use Rattle.promise.specs.Build.{ours}
+
+-- a gateway begins with a fresh book
+pub fresh-ours : Promises fresh.ended fresh.Reads.Learnt (λ κs a x p. x ≡ freshBook)
+fresh-ours κs a x p m = m
 
 -- opening and closing
 pub open-ours : Promises open.ended open.Reads.Learnt (λ κs a x p. (store out : List ℕ)
