@@ -23,7 +23,7 @@ pub record NoneTwice (b : Book) : Type 0 where
   pub resting : noTwice (restingOf b) ≡ true
 
 -- of a list where none is twice none is in its second part
-once-behind : (a r : List ℕ) → noTwice (a ++ r) ≡ true → noTwice r ≡ true
+pub once-behind : (a r : List ℕ) → noTwice (a ++ r) ≡ true → noTwice r ≡ true
 unfolding noTwice
 once-behind [] r e = e
 once-behind (x ∷ a) r e = once-behind a r (both-true (not (member x (a ++ r))) (noTwice (a ++ r)) e .1)

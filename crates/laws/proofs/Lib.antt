@@ -2,7 +2,11 @@ pub mod LineFor
 pub mod Keeps
 pub mod Others
 pub mod OwnLine
+pub mod Alone
+pub mod Apart
 pub mod Identifiers
+pub mod Resting
+pub mod LatePackets
 pub mod Unread
 pub mod Answers
 pub mod Determined

@@ -21,7 +21,7 @@ use Rattle.book.specs.Parts.{partStart, storeLength, partOf, withPart}
 use Rattle.book.specs.Shape.{BookShaped}
 use Rattle.book.specs.declared.Book.{Book}
 use Rattle.book.proofs.OtherLines.{line-other, closed-other}
-use Rattle.book.proofs.Parts.{part-in, part-long, part-kept, past-kept}
+use Rattle.book.proofs.Parts.{part-in, part-long, part-kept, past-kept, parts-alike}
 use Rattle.calls.specs.Call.{Call}
 use Rattle.calls.specs.Call as call
 use Rattle.calls.specs.Order.{order, lineFor, packetLine, lineAt}
@@ -86,6 +86,10 @@ puts (call.arrival s) b store out e k =
     })
 puts (call.handOut i channel) b store out e k = inl refl
 puts (call.report i channel) b store out e k = inl refl
+
+-- No call makes a line's part begin elsewhere.
+pub part-where : (c : Call) (b : Book) (store out : List ℕ) (i : ℕ) (octets : List ℕ) → partOf (resultOf c b store out .book) i octets ≡ partOf b i octets
+part-where c b store out i octets = parts-alike (resultOf c b store out .book) b i (λ j. refl) octets
 
 module _ (c : Call) (b : Book) (store out : List ℕ) (k : BookShaped b) where
   abbrev after : List ℕ

@@ -1,12 +1,13 @@
 -- What a call leaves of its own line, of what is lent and of its answer, once its verdict is known; and the verdict, once the answer is known.
 -- Assumes nothing.
 use Prim.Native.Nat.{ℕ}
-use mathlib.Core.Path.{_≡_, refl, sym, ap, _∙_}
+use mathlib.Core.Path.{_≡_, refl, sym, ap, subst, _∙_}
 use mathlib.Core.Bool.{true}
 use mathlib.Core.List.{List}
 use native.Mathlib.Omega.{arith}
 use lib.ListN.{length}
 use Rattle.ground.specs.Pick.{pick}
+use Rattle.ground.specs.Answer.{accepted}
 use Rattle.ground.specs.Refusal.{verdict}
 use Rattle.ground.specs.declared.Verdict.{Verdict}
 use Rattle.ground.specs.declared.Verdict.the-variants.{Pass}
@@ -87,3 +88,20 @@ module _ (c : Call) (b : Book) (store out : List ℕ) where
         ∙ pick-by (λ (a : Book). lineOf a i ≡ own .line) (own .rests)
         (λ e. closed-same b i ∙ rests-closed c i (lineOf b i) (partStart b i) store out e)
         (λ e. line-same b k i (line-number c b store out pass k) (own .line))
+
+-- What a call leaves of line i, which it is for, once all its tests pass.
+pub record Leaves (c : Call) (b : Book) (s o : List ℕ) (i : ℕ) : Type 0 where
+  pub answer : resultOf c b s o .answer ≡ accepted (effect c i (lineOf b i) (partStart b i) s o .values)
+  pub line : lineOf (resultOf c b s o .book) i ≡ effect c i (lineOf b i) (partStart b i) s o .line
+  pub store : resultOf c b s o .store ≡ effect c i (lineOf b i) (partStart b i) s o .store
+  pub out : resultOf c b s o .out ≡ effect c i (lineOf b i) (partStart b i) s o .out
+
+pub leaves-at : (c : Call) (b : Book) (store out : List ℕ) {i : ℕ} → lineFor c b ≡ i → verdict (tests c b (length store) (length out)) ≡ Pass → BookShaped b → Leaves c b store out i
+unfolding acceptedResult
+leaves-at c b store out mine pass k =
+    subst (Leaves c b store out) mine (record {
+      answer = ap (λ (d : CallResult). d .answer) (is-done c b store out pass);
+      line = own-line c b store out pass k;
+      store = own-store c b store out pass;
+      out = own-out c b store out pass;
+    })

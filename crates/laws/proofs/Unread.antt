@@ -89,7 +89,7 @@ opening-whole (call.arrival s) o j l m x y store out = clash o
 opening-whole (call.handOut i channel) o j l m x y store out = clash o
 opening-whole (call.report i channel) o j l m x y store out = clash o
 
-resting-opens-none : (k : Call) (j : ℕ) (l : Line) (start : ℕ) (store out : List ℕ) → effect k j l start store out .rests ≡ true → opens k ≡ false
+pub resting-opens-none : (k : Call) (j : ℕ) (l : Line) (start : ℕ) (store out : List ℕ) → effect k j l start store out .rests ≡ true → opens k ≡ false
 unfolding effect
 resting-opens-none (call.opening i s time) j l start store out e = clash e
 resting-opens-none (call.closing i) j l start store out e = refl

@@ -36,3 +36,4 @@ pub mod Demand3
 pub mod AnyWay
 pub mod Witness
 pub mod ReportCounts
+pub mod Isolation

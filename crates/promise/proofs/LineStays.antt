@@ -34,7 +34,7 @@ use Rattle.calls.specs.Parts.{fitBook, lineNumber, mustBeOpen}
 use Rattle.calls.specs.Result.{CallResult, resultWith, resultOf, effect}
 use Rattle.calls.proofs.Results.{moved-did}
 use Rattle.laws.proofs.Keeps.{every-call-keeps}
-use Rattle.laws.proofs.Others.{others-stay, parts-stay}
+use Rattle.laws.proofs.Others.{others-stay, parts-stay, part-where}
 use Rattle.promise.specs.Past.{Past, justOpened}
 use Rattle.promise.specs.Run.{Gateway, accepts, lineAt, partIn, Relays}
 use Rattle.promise.specs.Ours.{does, after}
@@ -63,7 +63,7 @@ module _ {i identifier kind : ℕ} {g : Gateway} {p : Past} (s : Sound i identif
   pub elsewhere-kept : (lineFor c (g .book) ≡ i → ⊥) → Left i identifier kind f (after g c out) p
   elsewhere-kept n =
       stays (others-stay c (g .book) (g .store) out i n)
-      (parts-alike (after g c out .book) (g .book) i (λ k. refl) (after g c out .store) ∙ parts-stay c (g .book) (g .store) out (s .shaped) i n)
+      (part-where c (g .book) (g .store) out i (after g c out .store) ∙ parts-stay c (g .book) (g .store) out (s .shaped) i n)
 
 -- a report changes nothing, whatever the answer
 pub report-kept : {i identifier kind : ℕ} {g : Gateway} {p : Past} → Sound i identifier kind g p → {f : End} → Joined (endOf g i p) f → (channel : ℕ) (out : List ℕ)

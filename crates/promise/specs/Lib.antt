@@ -10,3 +10,4 @@ pub mod Demand3
 pub mod Demand1
 pub mod Demand2
 pub mod ReportRule
+pub mod Isolation

@@ -1,7 +1,7 @@
 -- The idle build that gives a constant packet does not meet demand 2, and a count made up at will does not meet the report's rule: a line or two,
 -- computed, show it.
 -- Assumes nothing.
-use Prim.Native.Nat.{ℕ, _≤_}
+use Prim.Native.Nat.{ℕ, _≤_, _<_}
 use mathlib.Core.Path.{_≡_, refl, sym, ap, _∙_}
 use mathlib.Core.Bool.{true}
 use mathlib.Core.List.{List, [], _∷_}
@@ -51,7 +51,7 @@ abbrev pub named : ℕ → Settings
 named identifier = record { identifier = identifier; kind = 98; vbd = true; relay = true }
 
 -- what calls leave of a gateway, each lent the store that the one before it left, and no output
-abbrev called : Gateway → List Call → Gateway
+abbrev pub called : Gateway → List Call → Gateway
 called g [] = g
 called g (c ∷ cs) = let d = resultOf c (g .book) (g .store) [] in called (record { book = d .book; store = d .store }) cs
 
@@ -72,10 +72,10 @@ made-passes cs = called-passes cs (freshWith zeros) fresh-passes
 pub zeros-long : storeLength freshBook ≤ length zeros
 zeros-long = let e : storeOctets ≤ length zeros = lit≤ tt in omega (arith, store-length freshBook)
 
-ready : (cs : List Call) → isOpen (lineAt (made cs) 0) ≡ true → storeOctets ≤ length (made cs .store) → Ready (made cs) 0
-ready cs e l =
+pub ready : (cs : List Call) (i : ℕ) → i < 4 → isOpen (lineAt (made cs) i) ≡ true → storeOctets ≤ length (made cs .store) → Ready (made cs) i
+ready cs i small e l =
     let k = made-passes cs in
-    record { fits = k .0; shaped = k .1; long = omega (arith, store-length (made cs .book)); small = lit< tt; opened = e }
+    record { fits = k .0; shaped = k .1; long = omega (arith, store-length (made cs .book)); small = small; opened = e }
 
 -- line 0 is opened, and a request brings it into modem relay
 abbrev calls : ℕ → List Call
@@ -88,8 +88,8 @@ there identifier = made (calls identifier)
 pub constant-packets-fail : (b : Build) (s : List ℕ) → ((g : Gateway) (out : List ℕ) → accepts (does (b .does) g (call.empty 0 0) out) ≡ true → given (does (b .does) g (call.empty 0 0) out) ≡ s) → Demand2 b → ⊥
 unfolding resultOf acceptedResult effect partStart order lineFor openOrder askOrder bookFits linesFit allSpan openIn lineFits member noTwice allSpans owedFits modesFit sendingFits receivingFits maskOf setOf sizes.sizesFit every askStep moved timed channelsFor steppedTo
 constant-packets-fail b s same d =
-    let one = d .empty-back (there 5) 0 (ready (calls 5) refl (lit≤ tt)) refl 0 (lit≤ tt) (replicate 12 0) (lit≤ tt) in
-    let other = d .empty-back (there 6) 0 (ready (calls 6) refl (lit≤ tt)) refl 0 (lit≤ tt) (replicate 12 0) (lit≤ tt) in
+    let one = d .empty-back (there 5) 0 (ready (calls 5) 0 (lit< tt) refl (lit≤ tt)) refl 0 (lit≤ tt) (replicate 12 0) (lit≤ tt) in
+    let other = d .empty-back (there 6) 0 (ready (calls 6) 0 (lit< tt) refl (lit≤ tt)) refl 0 (lit≤ tt) (replicate 12 0) (lit≤ tt) in
     let n : _≡_ {A = ℕ} 5 6 = ap (λ (h : Head). h .identifier) (sym (one .1 .head-back) ∙ ap headAt (same (there 5) (replicate 12 0) (one .0) ∙ sym (same (there 6) (replicate 12 0) (other .0))) ∙ other .1 .head-back) in
     omega (arith, n)
 
@@ -101,7 +101,7 @@ pub made-up-fails : (n : ℕ) → Reports (madeUp n) → ⊥
 unfolding resultOf acceptedResult effect order lineFor openOrder askOrder bookFits linesFit allSpan openIn lineFits member noTwice allSpans owedFits modesFit sendingFits receivingFits maskOf setOf sizes.sizesFit every askStep moved timed channelsFor steppedTo takeOrder tookOne partStart heldFrom
 made-up-fails n d =
     let cs : List Call = call.opening 0 (named 5) 0 ∷ call.mode 0 (ask modem 0) ∷ call.taking 0 1 (7 ∷ []) ∷ [] in
-    let none = d .exact (there 5) 0 (ready (calls 5) refl (lit≤ tt)) refl 1 refl [] in
-    let one = d .exact (made cs) 0 (ready cs refl (lit≤ tt)) refl 1 refl [] in
+    let none = d .exact (there 5) 0 (ready (calls 5) 0 (lit< tt) refl (lit≤ tt)) refl 1 refl [] in
+    let one = d .exact (made cs) 0 (ready cs 0 (lit< tt) refl (lit≤ tt)) refl 1 refl [] in
     let e : _≡_ {A = ℕ} 0 1 = ap (λ (a : Answer). getD (a .values) 0 0) (sym none ∙ one) in
     omega (arith, e)

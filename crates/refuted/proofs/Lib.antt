@@ -4,6 +4,7 @@ pub mod Careless
 pub mod IdleRuns
 pub mod Ignoring
 pub mod LineByCaller
+pub mod MixedLines
 pub mod RoomByAck
 pub mod Twins
 pub mod Rounds

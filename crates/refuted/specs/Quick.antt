@@ -1,12 +1,14 @@
--- QUICK BUILDS: document 01's 'Errors a quick build makes', written down as builds. Each is shown to fail a demand. One is not here, as no demand
--- excludes it: a repeat that goes unacknowledged. It is the exact contract of an arrival that does.
+-- QUICK BUILDS: document 01's 'Errors a quick build makes', written down as builds, and two by which lines are mixed. Each is shown to fail a demand, or
+-- isolation. One is not here, as no demand excludes it: a repeat that goes unacknowledged. It is the exact contract of an arrival that does.
 -- Assumes nothing.
 use Rattle.line.specs.Figures.{sendWindow}
-use Prim.Native.Nat.{ℕ}
+use Prim.Native.Nat.{ℕ, _+_, _*_, _/_, _%_}
 use mathlib.Core.Bool.{Bool}
-use mathlib.Core.List.{_∷_}
-use lib.Dec.{ltb}
+use mathlib.Core.List.{List, [], _∷_}
+use lib.Dec.{ltb, eqb}
 use lib.ListN.{drop, getD}
+use Rattle.ground.specs.Pick.{pick}
+use Rattle.packet.specs.Read.{headAt}
 use Rattle.places.specs.Places.{maskOf, rankOf}
 use Rattle.places.specs.declared.Place.{Place}
 use Rattle.places.specs.declared.Place.the-variants.{At, Missing}
@@ -19,7 +21,7 @@ use Rattle.calls.specs.Call as call
 use Rattle.calls.specs.Order.{lineFor}
 use Rattle.calls.specs.Result.{resultWith, resultOf}
 use Rattle.promise.specs.Build.{Build}
-use Rattle.refuted.specs.Idle.{Arrives, doing, arriving, ignores}
+use Rattle.refuted.specs.Idle.{Arrives, doing, instead, lets, arriving, ignores}
 
 -- "Taking the line from the caller and not from the packet's identifier": the packet goes to the first open line
 abbrev pub misleads : Arrives
@@ -56,3 +58,27 @@ older = ignores isOlder
 
 abbrev pub bySize : Build
 bySize = doing (arriving older)
+
+-- "nothing is hashed" (RULES 4.1): here the line is found by a hash of the identifier, its last four bits, so that 5 and 21 are one. By a hash an
+-- old gateway mixed the cars of two levels
+abbrev hash : ℕ → ℕ
+hash identifier = identifier % 16
+
+-- of the open identifiers the first that has the hash, or else the identifier itself
+unfoldable pub firstAlike : List ℕ → ℕ → ℕ
+firstAlike [] identifier = identifier
+firstAlike (y ∷ ys) identifier = pick (eqb (hash y) (hash identifier)) y (firstAlike ys identifier)
+
+-- the packet with another identifier, and its extension bit
+abbrev renamed : List ℕ → ℕ → List ℕ
+renamed s identifier = (getD s 0 0 / 128 * 128 + identifier) ∷ drop 1 s
+
+abbrev pub mixes : Arrives
+mixes s b store out = resultOf (call.arrival (renamed s (firstAlike (openIn (b .lines)) (headAt s .identifier)))) b store out
+
+abbrev pub hashed : Build
+hashed = doing (arriving mixes)
+
+-- the report of what line 0 holds, whatever line is asked for
+abbrev pub firstsReport : Build
+firstsReport = doing (instead resultOf resultOf lets (λ c b store out. resultOf (call.report 0 1) b store out))
