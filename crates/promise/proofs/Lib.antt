@@ -23,8 +23,6 @@ pub mod Finish
 pub mod Meets
 pub mod Begins
 pub mod Bodies
-pub mod OurBodies
-pub mod OurCalls
 pub mod Packets
 pub mod Arrivals
 pub mod ModesStay
