@@ -4,7 +4,7 @@ ghost use mathlib.Core.Path.{_≡_};
 ghost use Prim.Native.Nat.{_<_};
 ghost use Rattle.ground.specs.Refusal.{verdict};
 ghost use Rattle.ground.specs.Answer.{Gives};
-ghost use Rattle.packet.specs.Acks.{named, acksServed};
+ghost use Rattle.packet.specs.Acks.{acksServed};
 ghost use Rattle.packet.specs.Read.{headTests, listTests, headSays, acksSays, headAt, acksAt, headerLength, channelAt, numberAt, baseAt, ackAt, sizeFits, payloadFits, formPlain};
 use ground::Refusal;
 use ground::Verdict;
@@ -113,10 +113,9 @@ fn head_verdict(s: &[u8]) -> Verdict
         return Verdict::Refuse(Refusal::SHORT);
     }
     if form_plain(s) {
-        Verdict::Pass
-    } else {
-        Verdict::Refuse(Refusal::FORM)
+        return Verdict::Pass;
     }
+    Verdict::Refuse(Refusal::FORM)
 }
 
 // The first six octets: SHORT, FORM.
@@ -156,18 +155,15 @@ fn acks_at(s: &[u8]) -> Acks
     }
 }
 
-fn ack_named(n: u8, k: u8, w: u16) -> bool
-    ensures { λ r. ⌜ r ≡ named n k w ⌝ }
-{
-    if k < n { field::served(w) } else { true }
-}
-
 // Does each acknowledgement that is there name a channel that is served?
 pub fn acks_served(a: Acks) -> bool
     ensures { λ r. ⌜ r ≡ acksServed a ⌝ }
 {
     let n = a.count;
-    ack_named(n, 0, a.one) & ack_named(n, 1, a.two) & ack_named(n, 2, a.three)
+    let one = field::served(a.one);
+    let two = field::served(a.two);
+    let three = field::served(a.three);
+    ((n < 1) | one) & ((n < 2) | two) & ((n < 3) | three)
 }
 
 fn list_verdict(s: &[u8]) -> Verdict
@@ -178,10 +174,9 @@ fn list_verdict(s: &[u8]) -> Verdict
     }
     let served = acks_served(acks_at(s));
     if (channel_at(s) < 3) & served {
-        Verdict::Pass
-    } else {
-        Verdict::Refuse(Refusal::CHANNEL)
+        return Verdict::Pass;
     }
+    Verdict::Refuse(Refusal::CHANNEL)
 }
 
 // The acknowledgements after the six octets: SHORT, CHANNEL.

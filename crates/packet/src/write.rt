@@ -1,12 +1,13 @@
 // A relay packet written (RULES 2.1 to RULES 2.9, RULES 14.18). What the values are, and how they are read, stands in lib.rt.
 ghost use mathlib.Core.Path.{_≡_};
 ghost use lib.ListN.{length};
-ghost use Prim.Native.Nat.{_+_, _*_};
+ghost use Prim.Native.Nat.{ℕ, _+_, _*_, _^_, _<_};
+ghost use mathlib.Core.List.{List};
 ghost use lib.Seq.{sets};
 ghost use Rattle.ground.specs.Refusal.{verdict};
 ghost use Rattle.ground.specs.Answer.{Writes};
 ghost use Rattle.field.specs.Layout.{packed, InWidth};
-ghost use Rattle.packet.specs.Acks.{blank, acksBlank};
+ghost use Rattle.packet.specs.Acks.{acksBlank};
 ghost use Rattle.packet.specs.Write.{layout, fixedFields, numbersPlaced, fieldsFit, writeTests, packetOctets};
 use crate::Acks;
 use crate::Head;
@@ -14,31 +15,19 @@ use ground::Refusal;
 use ground::Verdict;
 use ground::WriteAnswer;
 
-fn ack_blank(n: u8, k: u8, w: u16) -> bool
-    ensures { λ r. ⌜ r ≡ blank n k w ⌝ }
-{
-    if k < n { true } else { w == 0 }
-}
-
 // Is each that is not there 0?
 fn acks_blank(a: Acks) -> bool
     ensures { λ r. ⌜ r ≡ acksBlank a ⌝ }
 {
     let n = a.count;
-    ack_blank(n, 0, a.one) & ack_blank(n, 1, a.two) & ack_blank(n, 2, a.three)
+    ((0 < n) | (a.one == 0)) & ((1 < n) | (a.two == 0)) & ((2 < n) | (a.three == 0))
 }
 
 // Are numbers that have no place 0? n is the payload's length.
 fn numbers_placed(h: Head, n: usize) -> bool
     ensures { λ r. ⌜ r ≡ numbersPlaced h n ⌝ }
 {
-    if h.channel == 0 {
-        return (h.number == 0) & (h.base == 0);
-    }
-    if n == 0 {
-        return h.number == 0;
-    }
-    true
+    ((h.channel != 0) | ((h.number == 0) & (h.base == 0))) & ((n != 0) | (h.number == 0))
 }
 
 fn fields_fit(h: Head, a: Acks, n: usize) -> bool
@@ -55,26 +44,25 @@ fn fields_fit(h: Head, a: Acks, n: usize) -> bool
         & placed
 }
 
-fn write_verdict(h: Head, a: Acks, payload: &[u8], largest: usize, space: usize) -> Verdict
-    ensures { λ r. ⌜ r ≡ verdict (writeTests h a (now (payload .entry)) largest space) ⌝ }
+// n is the payload's length: nothing else of it is asked.
+fn write_verdict(h: Head, a: Acks, n: usize, largest: usize, space: usize) -> Verdict
+    requires { ⌜ n < 2 ^ 63 ⌝ }
+    ensures { λ r. ⌜ ((payload : List ℕ) → length payload ≡ n → r ≡ verdict (writeTests h a payload largest space)) ⌝ }
 {
-    let n = payload.len();
     if !fields_fit(h, a, n) {
         return Verdict::Refuse(Refusal::RANGE);
     }
     let served = crate::acks_served(a);
-    let channels = (h.channel < 3) & served;
-    if !channels {
+    if !((h.channel < 3) & served) {
         return Verdict::Refuse(Refusal::CHANNEL);
     }
     if !crate::size_fits(h.channel, n, largest) {
         return Verdict::Refuse(Refusal::SIZE);
     }
-    if 6 + 2 * (a.count as usize) + n <= space {
-        Verdict::Pass
-    } else {
-        Verdict::Refuse(Refusal::ROOM)
+    if space < 6 + 2 * (a.count as usize) + n {
+        return Verdict::Refuse(Refusal::ROOM);
     }
+    Verdict::Pass
 }
 
 // Stores the header and answers how many octets that is.
@@ -99,7 +87,7 @@ fn put_header(out: &mut [u8], h: Head, a: Acks) -> usize
 pub fn write_packet(out: &mut [u8], h: Head, a: Acks, payload: &[u8], largest: usize) -> WriteAnswer
     ensures { λ r. ⌜ Writes (writeTests h a (now (payload .entry)) largest (length (now (out .entry)))) (packetOctets h a (now (payload .entry))) (now (out .entry)) (now (out .exit)) r ⌝ }
 {
-    match write_verdict(h, a, payload, largest, out.len()) {
+    match write_verdict(h, a, payload.len(), largest, out.len()) {
         Verdict::Refuse(r) => WriteAnswer::Refused(r),
         Verdict::Pass => {
             let n = put_header(out, h, a);

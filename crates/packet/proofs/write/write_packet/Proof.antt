@@ -1,3 +1,4 @@
+use mathlib.Core.Path.{refl}
 use denote.Ref.{now}
 use lib.ListN.{length}
 use Rattle.ground.proofs.Verdicts.{writes-not}
@@ -19,18 +20,18 @@ enum-told c = search needs
 put-header-requires : tie.Need-put-header-requires
 put-header-requires c κs =
     let at = c .before .before .before .before .before .before .args in
-    write-room (at .h) (at .a) (now (at .payload)) (at .largest) (now (at .out)) (c .before .before .before .write-verdict .ensures) (c .before .enum-told .given .1)
+    write-room (at .h) (at .a) (now (at .payload)) (at .largest) (now (at .out)) (c .before .before .before .write-verdict .ensures (now (at .payload)) refl) (c .before .enum-told .given .1)
 
 put-octets-requires : tie.Need-put-octets-requires
 put-octets-requires c κs = search needs
 
-add-t17 : tie.Need-add-t17
-add-t17 c = search needs
+add-t18 : tie.Need-add-t18
+add-t18 c = search needs
 
 returns : tie.Need-returns
 returns c =
     let at = c .before .before .before .before .before .before in
-    writes-not (writeTests (at .args .h) (at .args .a) (now (at .args .payload)) (at .args .largest) (length (now (at .args .out)))) (packetOctets (at .args .h) (at .args .a) (now (at .args .payload))) (now (at .args .out)) (c .before .before .before .write-verdict .ensures) (c .before .r .given .1)
+    writes-not (writeTests (at .args .h) (at .args .a) (now (at .args .payload)) (at .args .largest) (length (now (at .args .out)))) (packetOctets (at .args .h) (at .args .a) (now (at .args .payload))) (now (at .args .out)) (c .before .before .before .write-verdict .ensures (now (at .args .payload)) refl) (c .before .r .given .1)
 
 same-length : tie.Need-same-length
 same-length c = search needs
@@ -38,7 +39,7 @@ same-length c = search needs
 returns-2 : tie.Need-returns-2
 returns-2 c =
     let at = c .before .before .before .before .before .before .before .before .before .before .before .before .before .args in
-    write-done (at .h) (at .a) (now (at .payload)) (at .largest) (now (at .out)) (c .before .before .before .before .before .before .before .before .before .before .write-verdict .ensures) (c .before .before .before .before .before .before .before .before .enum-told .given .1) (c .before .before .before .before .before .before .put-header .ensures .0) (c .before .before .before .before .before .before .put-header .ensures .1) (c .before .before .put-octets .ensures)
+    write-done (at .h) (at .a) (now (at .payload)) (at .largest) (now (at .out)) (c .before .before .before .before .before .before .before .before .before .before .write-verdict .ensures (now (at .payload)) refl) (c .before .before .before .before .before .before .before .before .enum-told .given .1) (c .before .before .before .before .before .before .put-header .ensures .0) (c .before .before .before .before .before .before .put-header .ensures .1) (c .before .before .put-octets .ensures)
 
 pub write-packet-spec : {M : Type 1} → statement M
 write-packet-spec =
@@ -49,7 +50,7 @@ write-packet-spec =
     enum-told
     put-header-requires
     put-octets-requires
-    add-t17
+    add-t18
     returns
     same-length
     returns-2)
