@@ -20,6 +20,7 @@ abbrev pub Promises : (T : Ended) → Claim T → Said T → Type 0
 Promises T Learnt P = (κs : Lfts (T .signature .lifetimes)) (a : Args (T .signature) κs) (x : Res (T .signature) κs) (p : Lasts T κs a) → Learnt κs a x (atExit T κs a p) → P κs a x p
 
 -- for all arguments: of any two outcomes that meet the contract the results are one, and so is what they leave behind each `&mut` that was lent
+-- (RULES 17.1)
 abbrev pub Determined : (T : Ended) → Claim T → Type 0
 Determined T Learnt =
     (κs : Lfts (T .signature .lifetimes)) (a : Args (T .signature) κs) (x y : Res (T .signature) κs) (p q : Lasts T κs a)
