@@ -18,19 +18,19 @@ use Rattle.relay.specs.RelayTests.{reliable}
 use Rattle.writing.specs.Send.{longestPacket}
 use Rattle.book.specs.Book.{freshBook}
 use Rattle.book.specs.Parts.{storeLength}
-use Rattle.calls.specs.Call.{Call}
 use Rattle.calls.specs.Call as call
 use Rattle.calls.specs.Result.{resultOf}
 use Rattle.promise.specs.Past.{Mark, Packet, Past, justOpened, tookPast, wrotePast, heardPast}
 use Rattle.promise.specs.Run.{Gateway, bound, Each, none, also, sentPacket, took, sent, heard, calls, stay, here, there}
 use Rattle.promise.specs.Promise.{sendsBy, receivesBy, InRelay, AllCame}
-use Rattle.promise.specs.Ours.{Recent, Honest, does, after, Run, reportBy}
-use Rattle.promise.specs.Demand3.{Serves, Served}
-use Rattle.promise.specs.Witness.{Sized, numbered, Passing}
+use Rattle.promise.specs.Ours.{Recent, Honest, does, after, Run}
+use Rattle.promise.specs.Demand3.{Served}
+use Rattle.promise.specs.Witness.{Sized, Passing}
+use Rattle.promise.specs.Notes.{mark}
 use Rattle.promise.proofs.SendingAnew.{more-here}
 use Rattle.promise.proofs.StepsKeep.{run-kept, run-on}
 use Rattle.promise.proofs.Drains.{hands-keep}
-use Rattle.promise.proofs.Meets.{Met, both-there}
+use Rattle.promise.proofs.Meets.{both-there}
 use Rattle.promise.proofs.Demand3.{turned-run, promised, all-out, hands-run, ours-demand3}
 
 abbrev roomy : List ℕ
@@ -39,27 +39,29 @@ roomy = replicate (longestPacket closedLine) 0
 -- packets that carry the messages of these numbers, each with a base and without acknowledgements
 data Carry (c : ℕ) : List Packet → List ℕ → Type 0 where
   nothing : Carry c [] []
-  one : {k : Packet} {ks : List Packet} {n : ℕ} {ns : List ℕ} (b : ℕ) → k .carries ≡ numbered c n ∷ [] → k .names ≡ numbered c b ∷ [] → k .acks ≡ [] → Carry c ks ns → Carry c (k ∷ ks) (n ∷ ns)
+  one : {k : Packet} {ks : List Packet} {n : ℕ} {ns : List ℕ} (b : ℕ) → k .carries ≡ mark c n ∷ [] → k .names ≡ mark c b ∷ [] → k .acks ≡ [] → Carry c ks ns → Carry c (k ∷ ks) (n ∷ ns)
 
-carry-marks : {c : ℕ} {ks : List Packet} {ns : List ℕ} → Carry c ks ns → map (λ (k : Packet). k .carries) ks ≡ map (λ (n : ℕ). numbered c n ∷ []) ns
+carry-marks : {c : ℕ} {ks : List Packet} {ns : List ℕ} → Carry c ks ns → map (λ (k : Packet). k .carries) ks ≡ map (λ (n : ℕ). mark c n ∷ []) ns
 carry-marks nothing = refl
 carry-marks (one b e f g s) = λ t. e t ∷ carry-marks s t
 
--- the packet of a number that was sent
-record Packeted (c n : ℕ) (ks : List Packet) : Type 0 where
-  packet : Packet
-  base : ℕ
-  written : List·Memᴰ packet ks
-  carries : packet .carries ≡ numbered c n ∷ []
-  names : packet .names ≡ numbered c base ∷ []
-  acks : packet .acks ≡ []
+-- a packet that carries message n is among these
+pub record Packeted (c n : ℕ) (ks : List Packet) : Type 0 where
+  pub packet : Packet
+  pub base : ℕ
+  pub written : List·Memᴰ packet ks
+  pub carries : packet .carries ≡ mark c n ∷ []
+  pub names : packet .names ≡ mark c base ∷ []
+  pub acks : packet .acks ≡ []
+
+-- it stays when another one is written
+pub still-packeted : {c n : ℕ} {k : Packet} {ks : List Packet} → Packeted c n ks → Packeted c n (k ∷ ks)
+still-packeted p = record { packet = p .packet; base = p .base; written = List·Memᴰ·tail (p .written); carries = p .carries; names = p .names; acks = p .acks }
 
 packeted : {c n : ℕ} {ks : List Packet} {ns : List ℕ} → Carry c ks ns → List·Memᴰ n ns → Packeted c n ks
 packeted {c} (one {k = k} b e f g s) (List·Memᴰ·head q) =
-    record { packet = k; base = b; written = List·Memᴰ·head refl; carries = e ∙ ap (λ (x : ℕ). numbered c x ∷ []) (sym q); names = f; acks = g }
-packeted (one b e f g s) (List·Memᴰ·tail m) =
-    let p = packeted s m in
-    record { packet = p .packet; base = p .base; written = List·Memᴰ·tail (p .written); carries = p .carries; names = p .names; acks = p .acks }
+    record { packet = k; base = b; written = List·Memᴰ·head refl; carries = e ∙ ap (λ (x : ℕ). mark c x ∷ []) (sym q); names = f; acks = g }
+packeted (one b e f g s) (List·Memᴰ·tail m) = still-packeted (packeted s m)
 
 map-mem : {A B : Type 0} (f : A → B) {a : A} {l : List A} → List·Memᴰ a l → List·Memᴰ (f a) (map f l)
 map-mem f (List·Memᴰ·head e) = List·Memᴰ·head (ap f e)
@@ -125,7 +127,7 @@ module _ (i j identifier kind c : ℕ) (v : reliable c ≡ true) {g₀ h : Gatew
           mine = (a .mine .0, s .inside);
           taken = a .taken;
           quiet = ap (drop 3) (a .quiet);
-          wrote = one _ (ap (λ (x : ℕ). numbered c x ∷ []) (r .2)) refl (ap (take 3) (a .quiet)) (a .wrote);
+          wrote = one _ (ap (λ (x : ℕ). mark c x ∷ []) (r .2)) refl (ap (take 3) (a .quiet)) (a .wrote);
         }
 
   takes-all : {ms : List Message} {ns : List ℕ} (more : List Message) → Each Sized more → length (ms ++ more) ≤ windowOf c → Stage ms ns → Stage (ms ++ more) ns
@@ -147,14 +149,14 @@ module _ (i j identifier kind c : ℕ) (v : reliable c ≡ true) {g₀ h : Gatew
       run : Run i j identifier kind (a .g) (a .p) there yours
       inside : InRelay there j yours
       taken : yours .taken c ≡ []
-      came-is : yours .came ≡ map (numbered c) came
+      came-is : yours .came ≡ map (mark c) came
 
     arrives : {came : List ℕ} → Reached came → (n : ℕ) → List·Memᴰ n ns → Reached (n ∷ came)
     arrives {came} r n m =
         let k = packeted (a .wrote) m in
         let s = k .packet .octets in
-        let lately : Recent (a .p .taken) (numbered c n) = omega (arith, ap length (a .taken), few, window-narrow c) in
-        let near : Recent (r .yours .taken) (numbered c (k .base)) = omega (arith, ap length (r .taken)) in
+        let lately : Recent (a .p .taken) (mark c n) = omega (arith, ap length (a .taken), few, window-narrow c) in
+        let near : Recent (r .yours .taken) (mark c (k .base)) = omega (arith, ap length (r .taken)) in
         let honest : Honest (r .yours) (a .p) s (k .packet)
         = record {
           written = k .written;
@@ -170,7 +172,7 @@ module _ (i j identifier kind c : ℕ) (v : reliable c ≡ true) {g₀ h : Gatew
           run = run-on (r .run) (there stay (calls (r .inside .0) (call.arrival s) [] (d .1 .opened) (λ _. d .1 .inside) (heard s (k .packet) (d .0) (r .inside .1) honest)));
           inside = (r .inside .0, d .1 .inside);
           taken = r .taken;
-          came-is = (λ t. k .carries t ++ r .yours .came) ∙ ap (λ (l : List Mark). numbered c n ∷ l) (r .came-is);
+          came-is = (λ t. k .carries t ++ r .yours .came) ∙ ap (λ (l : List Mark). mark c n ∷ l) (r .came-is);
         }
 
     arrive-all : (came : List ℕ) → Each (λ (n : ℕ). List·Memᴰ n ns) came → Reached came
@@ -182,7 +184,7 @@ module _ (i j identifier kind c : ℕ) (v : reliable c ≡ true) {g₀ h : Gatew
     passes came known all =
         let r = arrive-all came known in
         let there-all : AllCame c (a .g) i (a .p) (r .yours)
-        = λ n low high full. subst (List·Memᴰ (numbered c n)) (sym (r .came-is)) (map-mem (numbered c) (all n (omega (arith, high, S-is a)))) in
+        = λ n low high full. subst (List·Memᴰ (mark c n)) (sym (r .came-is)) (map-mem (mark c) (all n (omega (arith, high, S-is a)))) in
         let out = all-out (r .run) c v (r .inside) there-all (λ n. roomy) (λ n. lit≤ tt) in
         record {
           here = a .g;

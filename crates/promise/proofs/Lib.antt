@@ -1,4 +1,5 @@
 pub mod Lists
+pub mod Within
 pub mod Views
 pub mod Ends
 pub mod SendingAnew
@@ -17,6 +18,7 @@ pub mod CallsKeep
 pub mod LineStays
 pub mod NoCallLeftOut
 pub mod StepsKeep
+pub mod TooOld
 pub mod Accepts
 pub mod Drains
 pub mod Finish

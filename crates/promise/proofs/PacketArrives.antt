@@ -1,32 +1,39 @@
 -- A packet that the peer wrote arrives: it passes every test of its line, and its base, acknowledgements and payload keep the invariant.
 -- Assumes nothing.
-use Prim.Native.Nat.{ℕ, _+_, _≤_, _<_}
+use Prim.Native.Nat.{ℕ, _+_, _%_, _≤_, _<_}
 use mathlib.Core.Path.{_≡_, sym, ap, subst, transport, _∙_}
+use mathlib.Core.Bool.{true}
 use mathlib.Core.List.{List, [], _∷_, _++_}
 use native.Mathlib.Omega.{arith}
 use lib.ListN.{length}
+use lib.Seq.{length-take-le}
 use Rattle.ground.specs.Refusal.{verdict}
 use Rattle.ground.specs.declared.Verdict.the-variants.{Pass}
 use Rattle.packet.specs.Read.{headAt, payloadOf, headerLength, headTests}
+use Rattle.channel.specs.Channel.{modulus}
 use Rattle.flow.specs.Flow.{Message, Full}
 use Rattle.flow.proofs.Flows.{data-full}
+use Rattle.line.specs.Figures.{receiveWindow}
+use Rattle.line.specs.Line.{receivingOf}
 use Rattle.line.specs.declared.Line.{Line}
+use Rattle.relay.specs.RelayTests.{reliable}
 use Rattle.mode.specs.Given.{modem}
 use Rattle.arriving.specs.Effect.{Relaying, heardLine, ackedAll, storedLine, storedPart}
 use Rattle.arriving.specs.Arrive.{arriveTests, newsLine, arrivedLine, arrivedPart}
 use Rattle.arriving.proofs.Effects.{heard-relaying}
 use Rattle.arriving.proofs.Arrivals.{news-relaying, payload-length, arrive-passes, arrive-size, news-all, part-all, payload-line, payload-part}
+use Rattle.promise.specs.Ends.{receivesOf}
 use Rattle.promise.specs.Past.{Mark, Packet, enterAll, heardPast}
 use Rattle.promise.specs.Run.{Each, none, also, bound}
 use Rattle.promise.specs.Run as runs
 use Rattle.promise.specs.Ours.{Recent, Honest}
 use Rattle.promise.proofs.Lists.{each-at}
 use Rattle.promise.specs.Notes.{Carries, nothing, message}
-use Rattle.promise.proofs.Ends.{End, Says, Joined}
+use Rattle.promise.proofs.Ends.{End, Says, Joined, got}
 use Rattle.promise.proofs.NewsArrives.{withLine, base-joined, acks-joined}
-use Rattle.promise.proofs.PayloadArrives.{storing-joined}
+use Rattle.promise.proofs.PayloadArrives.{storing-joined, stored-ahead}
 
-full-length : (x : Message) → Full x → 0 < length x
+pub full-length : (x : Message) → Full x → 0 < length x
 full-length [] v = absurd v
 full-length (a ∷ x) v = omega arith
 
@@ -84,6 +91,20 @@ module _ {e f : End} (relaying : Relaying (e .line)) (j : Joined e f) (k : Packe
       let part = ap (λ (x : ℕ). storedPart (newsLine l s) channel x (payloadOf s) (e .part)) (sym q) ∙ payload-part l s there (e .part) in
       transport (λ t. Joined (record { line = line t; part = part t; past = heard (m ∷ []) .past }) f)
       (storing-joined (news-relaying l relaying s) n channel v (payloadOf s) (arrive-size l s pass) b d lately some)
+
+  -- What is carried may have, in 14 bits, the number of a later message n that is not taken yet and that the window has room for: it is stored as that.
+  pub stored-as : Each (Recent (e .past .taken)) (k .names) → Each (Recent (e .past .taken)) (k .acks) → reliable channel ≡ true → 0 < length (payloadOf s) → (n : ℕ) → headAt s .number ≡ n % modulus
+      → length (f .past .taken channel) ≤ n → n < length (e .past .handed channel) + receiveWindow l channel → got (afterArrival e k s) channel .stored n ≡ payloadOf s
+  stored-as a b v some n q ahead room =
+      let news = news-joined a b in
+      let c = news .back channel v in
+      let R = receivingOf (newsLine l s) channel .next in
+      let next : length (e .past .handed channel) ≡ R = ap length (c .out) ∙ length-take-le R (f .past .taken channel) (omega (arith, c .count, c .mid)) in
+      let there : headerLength s < length s = omega (arith, payload-length s, some) in
+      let line = ap (λ (x : ℕ). storedLine (newsLine l s) channel x (length (payloadOf s))) (sym q) ∙ payload-line l s there in
+      let part = ap (λ (x : ℕ). storedPart (newsLine l s) channel x (payloadOf s) (e .part)) (sym q) ∙ payload-part l s there (e .part) in
+      (λ t. receivesOf (sym part t) (sym line t) channel .stored n)
+      ∙ stored-ahead (news-relaying l relaying s) news channel v (payloadOf s) (arrive-size l s pass) n (omega (arith, ahead, c .count)) (omega (arith, room, next))
 
   -- "An arriving packet takes effect in this order"
   pub heard-joined : Each (Recent (f .past .taken)) (k .carries) → Each (Recent (e .past .taken)) (k .names) → Each (Recent (e .past .taken)) (k .acks)

@@ -65,7 +65,7 @@ module _ {within i j identifier kind : ℕ} {g h : Gateway} {p q : Past} (s : So
   peer : (q .opened ≡ true) × Open identifier kind (lineAt h j)
   peer = peer-open (t .phase) (honest .written)
 
-  asks : (verdict (headTests o) ≡ Pass) × (verdict (arriveTests (lineAt g i) o) ≡ Pass)
+  pub asks : (verdict (headTests o) ≡ Pass) × (verdict (arriveTests (lineAt g i) o) ≡ Pass)
   asks =
       let same : pick (q .opened) (lineAt h j) closedLine .kind ≡ lineAt g i .kind = rw (peer .0) (peer .1 .typed ∙ sym (own .typed)) in
       arrival-passes o packet honest r same (joined-open s opened k out)
@@ -93,7 +93,7 @@ module _ {within i j identifier kind : ℕ} {g h : Gateway} {p q : Past} (s : So
   abbrev pub comes : Call
   comes = call.arrival o
 
-  relaying-now : Relaying (lineAt g i)
+  pub relaying-now : Relaying (lineAt g i)
   relaying-now = record { fits = line-fits (g .book) (s .fits) i; opened = own .opened; inside = r }
 
   -- what it leaves of the line, and of its part of the store

@@ -7,17 +7,14 @@ use mathlib.Core.List.{List, [], _∷_, map}
 use lib.ListN.{length}
 use Rattle.channel.specs.Channel.{largest}
 use Rattle.flow.specs.Flow.{Message}
-use Rattle.promise.specs.Past.{Mark, Packet, Past}
+use Rattle.promise.specs.Past.{Packet, Past}
 use Rattle.promise.specs.Run.{Gateway}
 use Rattle.promise.specs.Ours.{Run}
+use Rattle.promise.specs.Notes.{mark}
 
 -- a message that may be taken
 abbrev pub Sized : Message → Type 0
 Sized m = (1 ≤ length m) × (length m ≤ largest)
-
--- message n of a channel
-abbrev pub numbered : ℕ → ℕ → Mark
-numbered channel n = record { channel = channel; number = n }
 
 -- A run from line i to line j in which the messages ms are taken on the channel, packets are written that carry those of the numbers `sent`, packets
 -- arrive that carry those of the numbers `arrived`, and all of ms is handed out. Of `sent` and `arrived` the last stands first, as in a past.
@@ -28,8 +25,8 @@ pub record Passing (i j identifier kind channel : ℕ) (ms : List Message) (sent
   pub yours : Past
   pub run : Run i j identifier kind here mine there yours
   pub taken : mine .taken channel ≡ ms
-  pub wrote : map (λ (k : Packet). k .carries) (mine .wrote) ≡ map (λ (n : ℕ). numbered channel n ∷ []) sent
-  pub came : yours .came ≡ map (numbered channel) arrived
+  pub wrote : map (λ (k : Packet). k .carries) (mine .wrote) ≡ map (λ (n : ℕ). mark channel n ∷ []) sent
+  pub came : yours .came ≡ map (mark channel) arrived
   pub handed : yours .handed channel ≡ ms
 
 -- Two messages, 0 and 1, pass.

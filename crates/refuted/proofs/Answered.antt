@@ -42,7 +42,7 @@ use Rattle.promise.proofs.StepsKeep.{run-kept}
 use Rattle.promise.proofs.Promised.{all-have}
 use Rattle.promise.proofs.Demand2.{ours-demand2}
 use Rattle.refuted.proofs.Twins.{f, Twin, turned, served, alike, ready, S-is, h-is, R-is, next-is, taken-is}
-use Rattle.refuted.proofs.Rounds.{space, At, g₂, p₂, t₂, taken₁, base₂, ranked, g₁, packet, number, honest, said-number, arrival, here, next-there}
+use Rattle.refuted.proofs.Rounds.{space, At, g₂, p₂, t₂, taken₁, base₂, ranked, g₁, packet, number, wrote₂, honest, said-number, arrival, here, next-there}
 
 -- acknowledgements leave h as it is
 acked-base : (s : Sending) (n : ℕ) → ackedBy s n .base ≡ s .base
@@ -235,4 +235,5 @@ module _ {test : ℕ → ℕ → Bool} {k : ℕ} (less : k < 16384) (a : At test
         quiet = ap (drop 3) owes₂;
         idle = a .idle;
         deaf = a .deaf;
+        wrote = wrote₂ few a;
       }

@@ -1,8 +1,8 @@
 -- A build that ignores messages by a test does not meet demand 3: the first one that the test does not let pass has come, and cannot be handed out.
--- By size that is message 16,384, whose number is 0 and seems old; where only the first message is served, it is the second.
+-- By size that is message 16,384, whose number is 0 and seems old; where only the first message is served, it is the second; where nothing is stored,
+-- the first.
 -- Assumes nothing.
-use Rattle.book.specs.Parts.{partStart}
-use Prim.Native.Nat.{ℕ, zero, suc, _%_, _≤_, _<_}
+use Prim.Native.Nat.{ℕ, _%_, _≤_, _<_}
 use mathlib.Core.Path.{_≡_, refl, sym, ap, subst, _∙_}
 use mathlib.Core.Bool.{Bool, true, false}
 use mathlib.Core.List.{List, [], List·Memᴰ·head}
@@ -11,49 +11,36 @@ use native.Mathlib.Omega.{arith}
 use lib.Dec.{lit≤, lit<}
 use lib.ListN.{length}
 use borrow.Author.Tests.{le-ltb}
-use Rattle.ground.specs.Every.{every}
 use Rattle.ground.specs.Pick.{pick}
 use Rattle.ground.proofs.Verdicts.{passed}
-use Rattle.places.specs.Places.{maskOf, setOf, bitOf}
+use Rattle.places.specs.Places.{maskOf, bitOf}
 use Rattle.packet.specs.Read.{headAt}
 use Rattle.channel.specs.Channel.{largest, windowOf}
-use Rattle.sending.specs.Sending.{sendingFits}
-use Rattle.receiving.specs.Receiving.{receivingFits}
-use Rattle.channel.specs.Sizes as sizes
 use Rattle.receiving.specs.declared.Receiving.{Receiving}
 use Rattle.flow.proofs.Keeps.{receiving-sized}
 use Rattle.flow.specs.Flow.{Full}
 use Rattle.flow.specs.View.{messageOf}
 use Rattle.flow.proofs.Messages.{message-full}
-use Rattle.owed.specs.Owed.{member, noTwice, allSpans, owedFits}
-use Rattle.mode.specs.Fit.{modesFit}
 use Rattle.mode.specs.Given.{modem}
-use Rattle.mode.specs.Moved.{channelsFor, timed, moved}
-use Rattle.mode.specs.Request.{askStep}
-use Rattle.mode.specs.Acts.{ask}
-use Rattle.line.specs.Fit.{lineFits}
 use Rattle.line.specs.Line.{isOpen, closedLine}
-use Rattle.line.specs.Mode.{steppedTo}
 use Rattle.line.specs.declared.Line.{Line}
 use Rattle.store.specs.declared.Way.the-variants as way
 use Rattle.relay.specs.RelayTests.{relayChannelTests}
 use Rattle.relay.specs.HandOut.{handCallTests}
-use Rattle.book.specs.Resting.{allSpan}
-use Rattle.book.specs.Book.{lineOf, withLine, openIn, linesFit, bookFits}
+use Rattle.book.specs.Book.{lineOf, withLine}
 use Rattle.book.proofs.OtherLines.{line-same}
 use Rattle.book.proofs.Facts.{line-fits}
 use Rattle.calls.specs.Call.{Call}
 use Rattle.calls.specs.Call as call
-use Rattle.calls.specs.Order.{openOrder, askOrder, order, lineFor}
-use Rattle.calls.specs.Result.{CallResult, resultOf, acceptedResult, effect}
-use Rattle.promise.specs.Past.{Past, nothingYet, justOpened, heardPast}
+use Rattle.calls.specs.Result.{CallResult, resultOf}
+use Rattle.promise.specs.Past.{Past, heardPast}
 use Rattle.promise.proofs.Phases.{part-there}
-use Rattle.promise.specs.Run.{Gateway, bound, does, after, lineAt, partIn, rankedMark, moded, heard, opens, calls, Step, Goes, stay, here, there, Run}
+use Rattle.promise.specs.Run.{Gateway, bound, does, after, lineAt, partIn, rankedMark, heard, calls, Step, there, Run}
 use Rattle.promise.specs.Promise.{receivesBy, AllCame, HandsOut}
 use Rattle.promise.specs.Promise as promise
 use Rattle.promise.specs.Ends.{slotsOf, receivesOf}
 use Rattle.promise.specs.Demand3.{Serves, Demand3}
-use Rattle.refuted.specs.Idle.{doing, arriving, unread, ignored, expected, ignores, isLater, firstOnly}
+use Rattle.refuted.specs.Idle.{doing, arriving, unread, ignored, expected, ignores, isLater, firstOnly, storesNothing}
 use Rattle.refuted.specs.Quick.{isOlder, bySize}
 use Rattle.promise.proofs.Views.{slots-hold}
 use Rattle.promise.proofs.Ends.{Sides, gets-ok, relay-sides}
@@ -61,40 +48,10 @@ use Rattle.promise.proofs.OwnLine.{call-passes}
 use Rattle.promise.proofs.CallsKeep.{hand-asks}
 use Rattle.promise.proofs.StepsKeep.{run-kept}
 use Rattle.promise.proofs.Demand3.{turned-run}
-use Rattle.refuted.proofs.IdlePackets.{named}
-use Rattle.refuted.proofs.IdleRuns.{fresh, inside, begun, run}
 use Rattle.refuted.proofs.Twins.{f, Twin, turned, goes-on, served, ready, S-is, h-is, R-is}
 use Rattle.refuted.proofs.Rounds as rounds
 use Rattle.refuted.proofs.Rounds.{At, space}
-use Rattle.refuted.proofs.Answered.{round}
-
--- the two begin, in a run of ours and of this build alike
-start : (test : ℕ → ℕ → Bool) → At test 0
-unfolding resultOf acceptedResult effect partStart order lineFor openOrder askOrder bookFits linesFit allSpan openIn lineFits member noTwice allSpans owedFits modesFit sendingFits receivingFits maskOf setOf sizes.sizesFit every askStep moved timed channelsFor steppedTo
-start test =
-    let opening : Call = call.opening 0 (named 5) 0 in
-    let asks : Call = call.mode 0 (ask modem 0) in
-    let g : Gateway = after resultOf (after resultOf fresh opening []) asks [] in
-    let w : Goes resultOf bound 0 0 5 98 fresh nothingYet fresh nothingYet g justOpened g justOpened
-    = there (here (there (here stay
-    (opens refl (named 5) 0 [] refl refl refl))
-    (opens refl (named 5) 0 [] refl refl refl))
-    (calls refl asks [] refl (λ _. refl) (moded (ask modem 0))))
-    (calls refl asks [] refl (λ _. refl) (moded (ask modem 0))) in
-    record {
-      g = g;
-      p = justOpened;
-      h = g;
-      q = justOpened;
-      twin = record { ours = run resultOf w; sized = run (f test) (begun resultOf resultOf (ignores test)); mine = (refl, refl); yours = (refl, refl) };
-      taken = refl;
-      handed = refl;
-      base = refl;
-      silent = refl;
-      quiet = refl;
-      idle = refl;
-      deaf = refl;
-    }
+use Rattle.refuted.proofs.UpTo.{up-to}
 
 module _ {test : ℕ → ℕ → Bool} {k : ℕ} (few : k ≤ 16384) (a : At test k) (caught : test (k % 16384) k ≡ true) where
   abbrev h : Gateway
@@ -183,23 +140,21 @@ module _ {test : ℕ → ℕ → Bool} {k : ℕ} (few : k ≤ 16384) (a : At tes
       let e : n ≡ rankedMark (rounds.g₁ few a) 0 1 (rounds.ranked few a .0) .number = omega (arith, low, high, h-is t, S-is t, rounds.base₂ few a, rounds.taken₁ few a, rounds.number few a) in
       List·Memᴰ·head (λ i. record { channel = 1; number = e i })
 
--- message after message passes before it
-module _ (test : ℕ → ℕ → Bool) (n : ℕ) (some : 0 < n) (few : n ≤ 16384) (passes : (k : ℕ) → k < n → test k k ≡ false) where
-  up-to : (k : ℕ) → k ≤ n → At test k
-  up-to zero l = start test
-  up-to (suc k) l = round (omega arith) (up-to k (omega arith)) (passes k (omega arith)) (passes 0 some)
-
-  ignoring-fails : test (n % 16384) n ≡ true → Demand3 (doing (arriving (ignores test))) → ⊥
-  ignoring-fails caught d =
-      let a = up-to n (omega arith) in
-      let e = d .ends (gone few a caught) (rounds.t₂ few a .mine) (yours few a caught .mine .0, within few a caught) 1 refl .all-out (came few a caught) (λ n. space) (λ n. lit≤ tt) in
-      none-out few a caught (e .hands) (e .all)
+-- the law: n messages pass, and the next one does not
+ignoring-fails : (test : ℕ → ℕ → Bool) (n : ℕ) → n ≤ 16384 → ((k : ℕ) → k < n → test k k ≡ false) → test (n % 16384) n ≡ true → Demand3 (doing (arriving (ignores test))) → ⊥
+ignoring-fails test n few passes caught d =
+    let a = up-to test n few passes n (omega arith) in
+    let e = d .ends (gone few a caught) (rounds.t₂ few a .mine) (yours few a caught .mine .0, within few a caught) 1 refl .all-out (came few a caught) (λ n. space) (λ n. lit≤ tt) in
+    none-out few a caught (e .hands) (e .all)
 
 pub by-size-fails : Demand3 bySize → ⊥
-by-size-fails = ignoring-fails isOlder 16384 (lit< tt) (lit≤ tt) (λ k l. le-ltb k k (omega arith)) refl
+by-size-fails = ignoring-fails isOlder 16384 (lit≤ tt) (λ k l. le-ltb k k (omega arith)) refl
 
 pub first-only-fails : Demand3 firstOnly → ⊥
 first-only-fails =
-    ignoring-fails isLater 1 (lit< tt) (lit≤ tt)
+    ignoring-fails isLater 1 (lit≤ tt)
     (λ k l. let first : k ≡ 0 = omega arith in ap (λ (n : ℕ). isLater n n) first)
     refl
+
+pub stores-nothing-fails : Demand3 storesNothing → ⊥
+stores-nothing-fails = ignoring-fails (λ number next. true) 0 (lit≤ tt) (λ k l. absurd (omega arith)) refl

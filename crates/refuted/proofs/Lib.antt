@@ -9,3 +9,5 @@ pub mod RoomByAck
 pub mod Twins
 pub mod Rounds
 pub mod Answered
+pub mod UpTo
+pub mod Sharp

@@ -27,7 +27,7 @@ use Rattle.calls.specs.Call as call
 use Rattle.calls.specs.Order.{lineFor}
 use Rattle.calls.specs.Result.{resultOf, effect}
 use Rattle.promise.specs.Past.{Mark, Packet, Past, tookPast, wrotePast}
-use Rattle.promise.specs.Run.{Gateway, does, after, lineAt, Each, none, also, rankedMark, baseMark, sentPacket, took, sent}
+use Rattle.promise.specs.Run.{Gateway, bound, Run, does, after, lineAt, Each, none, also, rankedMark, baseMark, sentPacket, took, sent}
 use Rattle.promise.specs.Ours.{Recent, Honest}
 use Rattle.promise.specs.Promise.{sendsBy, reportBy}
 use Rattle.promise.specs.Demand3.{Serves}
@@ -36,6 +36,9 @@ use Rattle.promise.proofs.OwnLine.{call-passes, line-left}
 use Rattle.promise.proofs.StepsKeep.{run-kept}
 use Rattle.promise.proofs.Demand2.{ours-demand2}
 use Rattle.promise.proofs.Demand3.{promised, report-counts}
+use Rattle.promise.proofs.AnyWay.{Packeted, still-packeted}
+use Rattle.ground.proofs.Every.{below-suc}
+use Rattle.promise.specs.Notes.{mark}
 use Rattle.refuted.proofs.Twins.{Twin, turned, served, alike, ready, S-is, h-is, R-is, next-is}
 
 abbrev pub space : List ℕ
@@ -58,6 +61,15 @@ pub record At (test : ℕ → ℕ → Bool) (k : ℕ) : Type 0 where
   pub quiet : q .owes ≡ []
   pub idle : q .taken 1 ≡ []
   pub deaf : p .handed 1 ≡ []
+  pub wrote : (n : ℕ) → n < k → Packeted 1 n (p .wrote)
+
+-- a message taken leaves h as it was
+pub took-base : {g h : Gateway} {p q : Past} → Run resultOf bound 0 0 5 98 g p h q → (m : Message) → Serves resultOf g 0 (call.taking 0 1 m) []
+    → lineAt (after resultOf g (call.taking 0 1 m) []) 0 .sending1 .base ≡ lineAt g 0 .sending1 .base
+unfolding lineFor effect partStart tookOne
+took-base {g} r m s =
+    let c : Call = call.taking 0 1 m in
+    ap (λ (l : Line). l .sending1 .base) (line-left (run-kept r .mine) c [] refl (call-passes g c [] (s .accepted)))
 
 -- Message k is taken and written.
 module _ {test : ℕ → ℕ → Bool} {k : ℕ} (few : k ≤ 16384) (a : At test k) where
@@ -83,8 +95,7 @@ module _ {test : ℕ → ℕ → Bool} {k : ℕ} (few : k ≤ 16384) (a : At tes
   taken₁ = omega (arith, length-append (a .p .taken 1) (message ∷ []), a .taken)
 
   base₁ : lineAt g₁ 0 .sending1 .base ≡ k
-  unfolding lineFor effect partStart tookOne
-  base₁ = ap (λ (l : Line). l .sending1 .base) (line-left (run-kept (t .ours) .mine) taking [] refl (call-passes (a .g) taking [] (takes .accepted))) ∙ a .base
+  base₁ = took-base (t .ours) message takes ∙ a .base
 
   -- it is held, as it has not come yet
   held₁ : Full (sendsBy g₁ 0 p₁ 1 .held k)
@@ -123,6 +134,11 @@ module _ {test : ℕ → ℕ → Bool} {k : ℕ} (few : k ≤ 16384) (a : At tes
 
   pub number : rankedMark g₁ 0 1 (ranked .0) .number ≡ k
   number = ranked .2
+
+  pub wrote₂ : (n : ℕ) → n < suc k → Packeted 1 n (p₂ .wrote)
+  wrote₂ =
+      below-suc (λ (n : ℕ). Packeted 1 n (p₂ .wrote)) k (λ n l. still-packeted (a .wrote n l))
+      (record { packet = packet; base = _; written = List·Memᴰ·head refl; carries = ap (λ (n : ℕ). mark 1 n ∷ []) number; names = refl; acks = ap (take 3) (a .silent) })
 
   pub honest : Honest (a .q) p₂ (packet .octets) packet
   honest =

@@ -79,20 +79,12 @@ arriving a = instead resultOf resultOf a resultOf
 abbrev pub constantPacket : List ℕ → Build
 constantPacket s = doing (instead (λ c b store out. resultWith (accepted (length s ∷ [])) b store (s ++ drop (length s) out)) resultOf lets resultOf)
 
--- "one storing nothing": what ours accepts is accepted, and leaves nothing
+-- "one storing nothing", of messages taken: what ours accepts is accepted, and leaves nothing
 abbrev pub forgets : Does
 forgets c b store out = resultWith (resultOf c b store out .answer) b store out
 
--- of messages taken
 abbrev pub holdsNothing : Build
 holdsNothing = doing (instead resultOf forgets lets resultOf)
-
--- of packets that arrive
-abbrev pub loses : Arrives
-loses s = forgets (call.arrival s)
-
-abbrev pub storesNothing : Build
-storesNothing = doing (arriving loses)
 
 -- the line as the packet leaves it, but with nothing received
 abbrev pub unread : Line → Line → Line
@@ -105,11 +97,15 @@ ignored s b store out =
     let i = lineFor (call.arrival s) b in
     resultWith (d .answer) (withLine b i (unread (lineOf b i) (lineOf (d .book) i))) store out
 
+-- "one storing nothing", of packets that arrive: their bases and acknowledgements are heard, and their messages acknowledged, as by ours
+abbrev pub storesNothing : Build
+storesNothing = doing (arriving ignored)
+
 -- the number that the line's channel expects next
 abbrev pub expected : List ℕ → Book → ℕ
 expected s b = receivingOf (lineOf b (lineFor (call.arrival s) b)) (headAt s .channel) .next
 
--- so is every message of which a test of its number, and of the one expected next, says so; any other is taken in as by ours
+-- ignored is every message of which a test of its number, and of the one expected next, says so; any other is taken in as by ours
 abbrev pub ignores : (ℕ → ℕ → Bool) → Arrives
 ignores test s b store out = pick (test (headAt s .number) (expected s b)) (ignored s b store out) (resultOf (call.arrival s) b store out)
 

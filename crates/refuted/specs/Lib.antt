@@ -1,3 +1,4 @@
 pub mod Idle
 pub mod Quick
 pub mod Careless
+pub mod Sharp
