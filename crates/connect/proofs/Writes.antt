@@ -11,6 +11,7 @@ use lib.Seq.{sets}
 use lib.Pow.{shl-exact}
 use lib.Bits.{bitOr}
 use borrow.Author.Tests.{ltb-true, leb-true, eqb-true}
+use mir.Val.{boolByte}
 use Rattle.ground.specs.Pick.{pick, bit}
 use Rattle.ground.specs.Refusal.{verdict}
 use Rattle.ground.specs.Answer.{Writes}
@@ -27,6 +28,11 @@ use Rattle.connect.specs.Spans.{nothing, bisWay, richWay, sizeOf, sizesF
 use Rattle.connect.specs.Write.{flagFields, baseFields, bisFields, historyFields, sizeFields, connectOctets, writeTests}
 use Rattle.connect.specs.declared.Way.{Way}
 use Rattle.connect.specs.declared.Connect.{Connect}
+
+-- a flag that is cast to a number
+pub bit-byte : (b : Bool) → boolByte b ≡ bit b
+bit-byte true = refl
+bit-byte false = refl
 
 pub bit-lt : (b : Bool) → bit b < 2 ^ 1
 bit-lt true = lit< tt

@@ -8,7 +8,6 @@ ghost use Rattle.ground.specs.Refusal.{verdict};
 ghost use Rattle.ground.specs.Answer.{Gives, Writes};
 ghost use Rattle.connect.specs.Read.{compressionAt, connectAt, wayAt, readTests, answerOf};
 ghost use Rattle.connect.specs.Spans.{sizeOf, nothing, bisWay, richWay, sizesFit, numbersFit};
-ghost use Rattle.ground.specs.Pick.{bit};
 ghost use Rattle.connect.specs.Write.{flagFields, writeTests, connectOctets};
 ghost use Rattle.field.specs.Layout.{join};
 ghost use lib.Seq.{sets};
@@ -169,10 +168,9 @@ fn read_verdict(s: &[u8]) -> Verdict
         return Verdict::Refuse(Refusal::LENGTH);
     }
     if sizes_fit(connect_at(s)) {
-        Verdict::Pass
-    } else {
-        Verdict::Refuse(Refusal::RANGE)
+        return Verdict::Pass;
     }
+    Verdict::Refuse(Refusal::RANGE)
 }
 
 // A body read: LENGTH below 8, RESERVED, LENGTH, RANGE.
@@ -185,22 +183,16 @@ pub fn read(s: &[u8]) -> Reading
     }
 }
 
-fn bit_of(b: bool) -> u16
-    ensures { λ r. ⌜ r ≡ bit b ⌝ }
-{
-    if b { 1 } else { 0 }
-}
-
 // Bits 48 to 63: six flags, and ten bits of 0.
 fn flags_of(c: Connect) -> u16
     ensures { λ r. ⌜ r ≡ join 0 (flagFields c) ⌝ }
 {
-    let a = bit_of(c.dlci);
-    let b = bit_of(c.octet);
-    let d = bit_of(c.rawbit);
-    let e = bit_of(c.frame);
-    let f = bit_of(c.charstat);
-    let g = bit_of(c.chardyn);
+    let a = c.dlci as u16;
+    let b = c.octet as u16;
+    let d = c.rawbit as u16;
+    let e = c.frame as u16;
+    let f = c.charstat as u16;
+    let g = c.chardyn as u16;
     (((((a << 1 | b) << 1 | d) << 1 | e) << 1 | f) << 1 | g) << 10
 }
 
@@ -249,15 +241,13 @@ fn write_verdict(c: Connect, space: usize) -> Verdict
     if (4 <= compression) & (compression <= 15) {
         return Verdict::Refuse(Refusal::RESERVED);
     }
-    let fit = numbers_fit(c) & sizes_fit(c);
-    if !fit {
+    if !(numbers_fit(c) & sizes_fit(c)) {
         return Verdict::Refuse(Refusal::RANGE);
     }
     if size_of(compression) <= space {
-        Verdict::Pass
-    } else {
-        Verdict::Refuse(Refusal::ROOM)
+        return Verdict::Pass;
     }
+    Verdict::Refuse(Refusal::ROOM)
 }
 
 // A body written: RESERVED, RANGE, ROOM.
