@@ -6,8 +6,9 @@ use mathlib.Core.Path.{_≡_, refl, sym, ap, subst, _∙_}
 use mathlib.Core.Bool.{true, false}
 use mathlib.Core.List.{List, [], _∷_}
 use native.Mathlib.Omega.{arith}
+use lib.Dec.{eqb}
 use lib.ListN.{length}
-use borrow.Author.Tests.{eqb-false}
+use borrow.Author.Tests.{eqb-true, eqb-false}
 use Rattle.ground.specs.Answer.{accepted}
 use Rattle.ground.specs.Refusal.{verdict}
 use Rattle.ground.specs.declared.Verdict.{Verdict}
@@ -22,11 +23,11 @@ use Rattle.line.proofs.Same.{stepped-opening}
 use Rattle.relay.proofs.Keeps.{took-line-same, handed-line-same}
 use Rattle.writing.proofs.Keeps.{wrote-line-same}
 use Rattle.arriving.proofs.Stays.{arrived-stays}
-use Rattle.book.specs.Book.{lineOf, ownerOf}
+use Rattle.book.specs.Book.{lineOf, bookFits, ownerOf}
 use Rattle.book.specs.Parts.{partOf}
 use Rattle.book.specs.Shape.{BookShaped}
 use Rattle.book.specs.declared.Book.{Book}
-use Rattle.book.proofs.OneOwner.{whose-at, whose-found}
+use Rattle.book.proofs.OneOwner.{whose-at, whose-found, one-owner}
 use Rattle.calls.specs.Call.{Call}
 use Rattle.calls.specs.Call as call
 use Rattle.calls.specs.Order.{lineFor, packetLine, lineAt}
@@ -135,3 +136,19 @@ module _ (b : Book) (shaped : BookShaped b) (i : ℕ) (small : i < 4) (opened : 
   packet-names-line z =
       let pass = accepted-passes (call.arrival s) b store out z in
       leaves-at (call.arrival s) b store out (arrives pass) pass shaped .answer
+
+-- THE PROMISE: no call is for two open lines, and no packet.
+module _ (b : Book) (fits : bookFits b ≡ true) (shaped : BookShaped b) (i j : ℕ) (first : i < 4) (second : j < 4) (open1 : isOpen (lineOf b i) ≡ true) (open2 : isOpen (lineOf b j) ≡ true) where
+  named-once : (n : ℕ) → eqb n i ≡ true → eqb n j ≡ true → i ≡ j
+  named-once n e f = sym (eqb-true n i e) ∙ eqb-true n j f
+
+  pub for-one-line : (k : Call) → forLine i (lineOf b i .identifier) k ≡ true → forLine j (lineOf b j .identifier) k ≡ true → i ≡ j
+  for-one-line (call.opening n s time) = named-once n
+  for-one-line (call.closing n) = named-once n
+  for-one-line (call.mode n a) = named-once n
+  for-one-line (call.taking n channel message) = named-once n
+  for-one-line (call.sending n channel rank) = named-once n
+  for-one-line (call.empty n channel) = named-once n
+  for-one-line (call.arrival s) = λ e f. one-owner b fits shaped i first open1 j second open2 (sym (eqb-true _ _ e) ∙ eqb-true _ _ f)
+  for-one-line (call.handOut n channel) = named-once n
+  for-one-line (call.report n channel) = named-once n

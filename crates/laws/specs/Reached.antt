@@ -26,7 +26,7 @@ unfoldable pub reach : Book → List Turn → Book
 reach b [] = b
 reach b (t ∷ ts) = reach (turned b t .book) ts
 
--- the turn closes a line: it is a closing, and is accepted
+-- the call is a closing
 abbrev pub isClosing : Call → Bool
 isClosing (call.opening i s time) = false
 isClosing (call.closing i) = true
@@ -38,6 +38,7 @@ isClosing (call.arrival s) = false
 isClosing (call.handOut i channel) = false
 isClosing (call.report i channel) = false
 
+-- the turn closes a line: it is a closing, and is accepted
 abbrev pub closes : Book → Turn → Bool
 closes b t = isClosing (t .call) && eqb (turned b t .answer .number) 0
 

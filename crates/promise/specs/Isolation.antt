@@ -1,7 +1,7 @@
 -- ISOLATION, asked of any build: what comes of the calls and packets of a line depends on that line alone, on its record and on its part of the store. What
 -- the other lines are, what is called there, which packets come for them and what lies in their parts of the store: nothing of it shows.
--- It is said of an open line. Opening is outside: whether a closed line may be opened depends on the others, as TAKEN asks for their identifiers and for
--- those that rest.
+-- It is said of an open line: to open it once more is TAKEN, whatever the others are. The opening of a closed line is outside: whether it is accepted depends
+-- on the others, as TAKEN asks for their identifiers and for those that rest.
 -- Assumes nothing.
 use Prim.Native.Nat.{ℕ}
 use mathlib.Core.Path.{_≡_}

@@ -33,7 +33,7 @@ use Rattle.calls.specs.Call.{Call}
 use Rattle.calls.specs.Call as call
 use Rattle.calls.specs.Order.{openOrder, askOrder, arriveOrder, reportOrder, order, lineFor}
 use Rattle.calls.specs.Result.{resultOf, acceptedResult, effect}
-use Rattle.promise.specs.Isolation.{SameLine, Isolated}
+use Rattle.promise.specs.Isolation.{SameLine, Calling, Told, Isolated}
 use Rattle.refuted.proofs.IdlePackets.{named, zeros, made, ready}
 use Rattle.refuted.specs.Quick.{firstAlike, hashed, firstsReport}
 
@@ -59,11 +59,19 @@ same =
       part = parts-alike (made beside .book) (made alone .book) 1 (λ j. refl) zeros;
     }
 
--- the packet for 21 reaches line 0 of the first, and line 1 of the second
+-- The packet for 21 comes, and nothing else: it reaches line 0 of the first, and line 1 of the second.
+abbrev comes : List Calling
+comes = record { call = call.arrival (21 ∷ 98 ∷ 0 ∷ 0 ∷ 0 ∷ 0 ∷ []); out = [] } ∷ []
+
+-- the first value of the first answer
+abbrev first : List Told → ℕ
+first [] = 0
+first (t ∷ ts) = getD (t .answer .values) 0 0
+
 pub hashed-fails : Isolated hashed → ⊥
 unfolding resultOf acceptedResult effect order lineFor openOrder askOrder bookFits linesFit allSpan openIn lineFits member noTwice allSpans owedFits modesFit sendingFits receivingFits maskOf setOf sizes.sizesFit every askStep moved timed channelsFor steppedTo partStart arriveOrder ownerFrom headAt numberAt baseAt acksAt ackAt acksServed payloadOf packet.sizeFits bitsAt firstAlike
 hashed-fails d =
-    let n : _≡_ {A = ℕ} 0 1 = ap (λ (a : Answer). getD (a .values) 0 0) (d .own 1 (made beside) (made alone) same (call.arrival (21 ∷ 98 ∷ 0 ∷ 0 ∷ 0 ∷ 0 ∷ [])) refl [] .answer) in
+    let n : _≡_ {A = ℕ} 0 1 = ap first (d .runs 1 (made beside) (made alone) same comes comes refl refl .0) in
     omega (arith, n)
 
 -- the report on line 1 is line 0's in the first, and NOLINE in the second
