@@ -39,10 +39,9 @@ fn due(modes: Modes, time: u64) -> bool
         return false;
     }
     if modes.tries == 0 {
-        (modes.local != modes.remote) & (Modes::T2 < elapsed(modes.since, time))
-    } else {
-        Modes::T1 <= elapsed(modes.tried, time)
+        return (modes.local != modes.remote) & (Modes::T2 < elapsed(modes.since, time));
     }
+    Modes::T1 <= elapsed(modes.tried, time)
 }
 
 // The record after a tick.
@@ -58,10 +57,11 @@ fn ticked_modes(modes: Modes, time: u64) -> Modes
             .moved(Modes::AUDIO, Modes::UNKNOWN, time)
             .trying(1, time);
     }
+    let stayed = modes.stayed(time);
     if tries == Modes::TRIES {
-        return modes.stayed(time).trying(Modes::ENDED, modes.tried);
+        return stayed.trying(Modes::ENDED, modes.tried);
     }
-    modes.stayed(time).trying(tries + 1, time)
+    stayed.trying(tries + 1, time)
 }
 
 // What a tick answers.

@@ -30,4 +30,4 @@ returns-3 c = simp (← c .before .before .before .before .ended .ensures, c .be
 pub due-spec : {M : Type 1} → statement M
 due-spec =
     tie.close
-    (tie.spec ended-requires returns elapsed-requires elapsed-requires-2 returns-2 returns-3)
+    (tie.spec ended-requires returns elapsed-requires returns-2 elapsed-requires-2 returns-3)

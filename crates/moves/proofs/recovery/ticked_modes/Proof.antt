@@ -38,10 +38,7 @@ trying-requires-2 c κs = search needs
 
 returns-3 : tie.Need-returns-3
 unfolding tickedModes
-returns-3 c = simp (← c .before .before .before .before .before .due .ensures, not-false (c .before .before .before .before .before .due .result) (c .before .before .before .before .if1 .left), ne-eqb _ _ (c .before .before .before .if2 .left), eq-eqb _ _ (c .before .before .if3 .taken), c .trying2 .ensures, c .before .stayed2 .ensures)
-
-stayed-requires-3 : tie.Need-stayed-requires-3
-stayed-requires-3 c κs = search needs
+returns-3 c = simp (← c .before .before .before .before .before .due .ensures, not-false (c .before .before .before .before .before .due .result) (c .before .before .before .before .if1 .left), ne-eqb _ _ (c .before .before .before .if2 .left), eq-eqb _ _ (c .before .if3 .taken), c .trying2 .ensures, c .before .before .stayed2 .ensures)
 
 add-trying : tie.Need-add-trying
 add-trying c =
@@ -54,7 +51,7 @@ trying-requires-3 c κs = search needs
 
 returns-4 : tie.Need-returns-4
 unfolding tickedModes
-returns-4 c = simp (← c .before .before .before .before .before .due .ensures, not-false (c .before .before .before .before .before .due .result) (c .before .before .before .before .if1 .left), ne-eqb _ _ (c .before .before .before .if2 .left), ne-eqb _ _ (c .before .before .if3 .left), c .trying3 .ensures, c .before .stayed3 .ensures)
+returns-4 c = simp (← c .before .before .before .before .before .due .ensures, not-false (c .before .before .before .before .before .due .result) (c .before .before .before .before .if1 .left), ne-eqb _ _ (c .before .before .before .if2 .left), ne-eqb _ _ (c .before .if3 .left), c .trying3 .ensures, c .before .before .stayed2 .ensures)
 
 pub ticked-modes-spec : {M : Type 1} → statement M
 ticked-modes-spec =
@@ -69,7 +66,6 @@ ticked-modes-spec =
     stayed-requires-2
     trying-requires-2
     returns-3
-    stayed-requires-3
     add-trying
     trying-requires-3
     returns-4)
