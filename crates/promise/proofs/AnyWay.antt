@@ -194,7 +194,7 @@ module _ (i j identifier kind c : ℕ) (v : reliable c ≡ true) {g₀ h : Gatew
           run = hands-run (r .run) c v (r .inside) (λ n. roomy) (out .hands);
           taken = a .taken;
           wrote = carry-marks (a .wrote);
-          came = hands-keep c v (λ n. roomy) (run-kept (r .run)) (r .inside) (out .hands) .1 ∙ r .came-is;
+          came = hands-keep c v (λ n. roomy) (run-kept (r .run)) (r .inside) (out .hands) .came ∙ r .came-is;
           handed = out .all ∙ a .taken;
         }
 

@@ -2,7 +2,7 @@
 -- nothing that waits is lost, and all can be handed out.
 -- Assumes nothing.
 use Rattle.writing.specs.Send.{longestPacket}
-use Prim.Native.Nat.{ℕ, zero, suc, _≤_, _<_}
+use Prim.Native.Nat.{ℕ, _≤_, _<_}
 use mathlib.Core.Path.{_≡_, refl, sym, ap, subst, _∙_}
 use mathlib.Core.Bool.{true}
 use mathlib.Core.List.{List, [], _++_, List·Memᴰ}
@@ -11,11 +11,10 @@ use native.Mathlib.Omega.{arith}
 use lib.ListN.{length, getD}
 use lib.Seq.{length-take-le}
 use Rattle.sending.specs.Sending.{heldCount}
-use Rattle.flow.specs.Flow.{Full, waiting}
-use Rattle.channel.specs.Channel.{largest}
+use Rattle.flow.specs.Flow.{Message, Full, waiting}
+use Rattle.channel.specs.Channel.{largest, cap}
 use Rattle.line.specs.Line.{isOpen, sendingOf}
 use Rattle.relay.specs.RelayTests.{reliable}
-use Rattle.relay.proofs.Lines.{channel-span}
 use Rattle.calls.specs.Call.{Call}
 use Rattle.calls.specs.Call as call
 use Rattle.calls.specs.Order.{lineFor}
@@ -26,28 +25,22 @@ use Rattle.promise.specs.Past.{Packet, Past, tookPast, handedPast, wrote
 use Rattle.promise.specs.Run.{Gateway, bound, accepts, lineAt, Relays, rankedMark, calls, stay, here, there}
 use Rattle.promise.specs.Run as runs
 use Rattle.promise.specs.Promise.{sendsBy, receivesBy, Carried, Promised, InRelay, AllCame, Ample}
-use Rattle.promise.specs.Ours.{Honest, does, after, Provided, Goes, Run, reportBy, HandsOut, AllOut, BothOut, CanFinish}
+use Rattle.promise.specs.Ours.{Honest, does, after, Provided, Run, reportBy, HandsOut, AllOut, BothOut, TakesMore, Settles}
 use Rattle.promise.specs.Demand3.{Serves, Served, Demand3}
-use Rattle.promise.proofs.Ends.{End, turn}
+use Rattle.promise.proofs.Ends.{End, turn, on-both}
 use Rattle.promise.proofs.Phases.{is-open}
 use Rattle.promise.proofs.CallsKeep.{LeftIn, took-kept, handed-kept, sent-kept, wrote-kept}
 use Rattle.promise.proofs.Begins.{begins}
 use Rattle.promise.proofs.Promised as line
 use Rattle.promise.proofs.OwnLine.{Passes, call-passes, call-accepted}
 use Rattle.promise.proofs.NoCallLeftOut.{call-adds}
-use Rattle.promise.proofs.StepsKeep.{Pair, run-kept, run-on, arrives-here, arrival-tests, heard-kept}
+use Rattle.promise.proofs.StepsKeep.{Pair, turned-goes, run-kept, run-on, arrives-here, arrival-tests, heard-kept}
 use Rattle.promise.proofs.Accepts.{report-passes, take-passes, send-passes, held-rank, hand-passes, empty-passes}
 use Rattle.promise.proofs.Drains.{drains, hands-go, hands-keep}
-use Rattle.promise.proofs.Finish.{finishes}
 use Rattle.promise.proofs.NotesTrue.{notes-true}
+use Rattle.promise.proofs.GoesOn.{takes-more, settles}
 
 -- each way is the other seen from the other end
-turned-goes : {f : Does} {within i j identifier kind : ℕ} {g g′ h h′ : Gateway} {p p′ q q′ : Past} → runs.Goes f within i j identifier kind g p h q g′ p′ h′ q′
-    → runs.Goes f within j i identifier kind h q g p h′ q′ g′ p′
-turned-goes stay = stay
-turned-goes (here w s) = there (turned-goes w) s
-turned-goes (there w s) = here (turned-goes w) s
-
 pub turned-run : {f : Does} {within i j identifier kind : ℕ} {g h : Gateway} {p q : Past} → runs.Run f within i j identifier kind g p h q → runs.Run f within j i identifier kind h q g p
 turned-run r = record { store1 = r .store2; store2 = r .store1; lines = (r .lines .1, r .lines .0); long = (r .long .1, r .long .0); goes = turned-goes (r .goes) }
 
@@ -110,9 +103,14 @@ module _ {i j identifier kind : ℕ} {g h : Gateway} {p q : Past} (r : Run i j i
         let d = held-rank (k .mine) a (k .joined) [] channel v n low high full in
         (d .0, omega (arith, d .1, report-counts a), d .2)
 
-    -- from every state the two can finish
-    pub can-finish : InRelay g i p → InRelay h j q → CanFinish i j identifier kind channel g p h q
-    can-finish a b = finishes k a b channel v
+  -- from every state another message can come to be taken, unless it is SPENT
+  pub can-take : InRelay g i p → InRelay h j q → (channel : ℕ) → reliable channel ≡ true → (m : Message) → 1 ≤ length m → length m ≤ largest → sendsBy g i p channel .S < cap
+      → TakesMore i j identifier kind g p h q channel m
+  can-take a b = takes-more k a b
+
+  -- from every state the two can finish, at 64 packets each way: all is handed out, both reports are 0, and no acknowledgement is owed
+  pub can-finish : InRelay g i p → InRelay h j q → Settles i j identifier kind g p h q
+  can-finish a b = settles k a b
 
   -- no call is left out of a run: at the open line whatever is called leads on, if it keeps the line open and in modem relay and no packet breaks the proviso
   pub every-call : p .opened ≡ true → (c : Call) (out : List ℕ) → isOpen (lineAt (after g c out) i) ≡ true → (Relays g i → Relays (after g c out) i) → Provided i g p q out c
@@ -132,23 +130,14 @@ both-out {g = g} {p = p} r a one two outs ample =
     let d = all-out r 1 refl a one outs ample in
     let kept = hands-keep 1 refl outs (run-kept r) a (d .hands) in
     let r′ = hands-run r 1 refl a outs (d .hands) in
-    let e = all-out r′ 2 refl (kept .0) (λ n low high full. subst (List·Memᴰ (record { channel = 2; number = n })) (sym (kept .1)) (two n low high full)) outs ample in
-    let after = hands-keep 2 refl outs (run-kept r′) (kept .0) (e .hands) in
+    let e = all-out r′ 2 refl (kept .inside) (λ n low high full. subst (List·Memᴰ (record { channel = 2; number = n })) (sym (kept .came)) (two n low high full)) outs ample in
+    let after = hands-keep 2 refl outs (run-kept r′) (kept .inside) (e .hands) in
     record {
       gateway = e .gateway;
       past = e .past;
-      goes = hands-go 2 refl outs (run-kept r′) (kept .0) (e .hands) (hands-go 1 refl outs (run-kept r) a (d .hands) stay);
-      each = λ n v. served (λ c. e .past .handed c ≡ p .taken c) (after .2 1 (λ q. absurd (omega arith)) ∙ d .all) (e .all) n v;
+      goes = hands-go 2 refl outs (run-kept r′) (kept .inside) (e .hands) (hands-go 1 refl outs (run-kept r) a (d .hands) stay);
+      each = on-both (λ c. e .past .handed c ≡ p .taken c) (after .others 1 (λ q. absurd (omega arith)) ∙ d .all) (e .all);
     }
-  where
-    served : (P : ℕ → Type 0) → P 1 → P 2 → (n : ℕ) → reliable n ≡ true → P n
-    served P x y n v = let b = channel-span n v in go n (b .0) (b .1)
-      where
-        go : (n : ℕ) → 1 ≤ n → n ≤ 2 → P n
-        go zero l u = absurd (omega arith)
-        go (suc zero) l u = x
-        go (suc (suc zero)) l u = y
-        go (suc (suc (suc n))) l u = absurd (omega arith)
 
 -- "on each reliable channel, each way"
 pub promised : {i j identifier kind : ℕ} {g h : Gateway} {p q : Past} → Run i j identifier kind g p h q → Promised g i p h j q
@@ -193,5 +182,6 @@ ours-demand3 =
       promised = promised;
       noted = notes-true;
       served = all-served;
-      ends = λ r a b channel v. record { all-out = all-out r channel v b; finishes = can-finish r channel v a b };
+      ends = λ r a b channel v. record { all-out = all-out r channel v b };
+      goes-on = λ r a b. record { takes-more = can-take r a b; settles = can-finish r a b };
     }

@@ -16,7 +16,7 @@ use Rattle.calls.specs.Call.{Call}
 use Rattle.calls.specs.Call as call
 use Rattle.calls.specs.Order.{lineFor}
 use Rattle.calls.specs.Result.{effect}
-use Rattle.promise.specs.Past.{Past, handedPast}
+use Rattle.promise.specs.Past.{Mark, Past, handedPast}
 use Rattle.promise.specs.Run.{Gateway, given, handed, calls, there}
 use Rattle.promise.specs.Promise.{sendsBy, receivesBy, InRelay, AllCame, outAt, done, next, Ample}
 use Rattle.promise.specs.Ours.{does, after, Adds, Step, Goes, HandsOut, AllOut}
@@ -29,6 +29,7 @@ use Rattle.promise.proofs.OwnLine.{Passes, call-passes, call-accepted, 
 use Rattle.promise.proofs.CallsKeep.{LeftIn, hand-asks, joined-open, handed-kept}
 use Rattle.promise.proofs.StepsKeep.{Pair, turned, step-kept}
 use Rattle.promise.proofs.Accepts.{hand-passes}
+use Rattle.promise.proofs.CameStays.{CameTo, came-handed}
 
 -- a call that leaves the line in modem relay is a step
 pub relay-step : {i identifier kind : ℕ} {g : Gateway} {p p′ q : Past} {f : End} → p .opened ≡ true → (c : Call) (out : List ℕ) → p′ .opened ≡ true
@@ -44,6 +45,16 @@ handed-shows {j} {h = h} {q} s o k out c pass m =
     let now = ap (λ (e : End). got e c) (end-now h j q o refl refl) in
     let then = ap (λ (e : End). got e c) (end-now (after h d out) j (handedPast q c m) o (line-left s d out refl pass) (part-stays s d out refl pass refl)) in
     transport (λ t. HandOutMove (sym now t) (sym then t)) (hands c (length out) (hand-asks h j out c pass) (joined-open s o k out))
+
+-- hand-outs of channel c leave the line in modem relay, what was handed out of the other channel, and all else that has become of the line
+pub record HandsKeep (j c : ℕ) (h : Gateway) (q : Past) (h′ : Gateway) (q′ : Past) : Type 0 where
+  pub inside : InRelay h′ j q′
+  pub taken : q′ .taken ≡ q .taken
+  pub wrote : q′ .wrote ≡ q .wrote
+  pub owes : q′ .owes ≡ q .owes
+  pub came : q′ .came ≡ q .came
+  pub others : (n : ℕ) → n ≢ c → q′ .handed n ≡ q .handed n
+  pub stays : {m : Mark} → CameTo h j q m → CameTo h′ j q′ m
 
 module _ {i j identifier kind : ℕ} (c : ℕ) (v : reliable c ≡ true) (outs : ℕ → List ℕ) where
   -- a hand-out that is accepted
@@ -77,18 +88,25 @@ module _ {i j identifier kind : ℕ} (c : ℕ) (v : reliable c ≡ true) (outs :
       let pass = call-passes h (call.handOut j c) (outAt outs h j c) e in
       hands-go (hand-pair k a pass) (hand-in k a pass) hs (there w (hand-step k a pass))
 
-  -- they leave the line in modem relay, what has come as it was, and what was handed out of the other channel
-  pub hands-keep : {g h h′ : Gateway} {p q q′ : Past} → Pair i j identifier kind g p h q → InRelay h j q → HandsOut j c outs h q h′ q′
-      → InRelay h′ j q′ × (q′ .came ≡ q .came) × ((n : ℕ) → n ≢ c → q′ .handed n ≡ q .handed n)
-  hands-keep k a done = (a, refl, λ n d. refl)
+  pub hands-keep : {g h h′ : Gateway} {p q q′ : Past} → Pair i j identifier kind g p h q → InRelay h j q → HandsOut j c outs h q h′ q′ → HandsKeep j c h q h′ q′
+  hands-keep k a done = record { inside = a; taken = refl; wrote = refl; owes = refl; came = refl; others = λ n d. refl; stays = λ x. x }
   hands-keep {h = h} {q = q} k a (next e hs) =
       let out = outAt outs h j c in
       let pass = call-passes h (call.handOut j c) out e in
+      let x = given (does h (call.handOut j c) out) in
       let rest = hands-keep (hand-pair k a pass) (hand-in k a pass) hs in
-      (rest .0, rest .1, λ n d. rest .2 n d ∙ more-other (q .handed) c (given (does h (call.handOut j c) out)) n d)
+      record {
+        inside = rest .inside;
+        taken = rest .taken;
+        wrote = rest .wrote;
+        owes = rest .owes;
+        came = rest .came;
+        others = λ n d. rest .others n d ∙ more-other (q .handed) c x n d;
+        stays = λ s. rest .stays (came-handed (turned k) a s out c pass x);
+      }
 
   module _ (ample : Ample outs) where
-    drained : (m : ℕ) {g h : Gateway} {p q : Past} → Pair i j identifier kind g p h q → InRelay h j q → receivesBy h j q c .R + m ≡ sendsBy g i p c .S
+    pub drained : (m : ℕ) {g h : Gateway} {p q : Past} → Pair i j identifier kind g p h q → InRelay h j q → receivesBy h j q c .R + m ≡ sendsBy g i p c .S
         → ((n : ℕ) → n < sendsBy g i p c .S → Have (receivesBy h j q c) n) → AllOut j c p h q outs
     drained zero {g} {h} {p} {q} k a e all =
         let f = k .joined .there c v in

@@ -1,7 +1,7 @@
 -- What holds at all times between the two ends of a line: each end by itself, what its packets say of it, and the flow of each channel each way.
 -- What a packet says is about its writer alone, and stays true as the writer goes on.
 -- Assumes nothing.
-use Prim.Native.Nat.{ℕ, _+_, _%_, _≤_}
+use Prim.Native.Nat.{ℕ, zero, suc, _+_, _%_, _≤_}
 use mathlib.Core.Path.{_≡_, sym, _∙_, subst, transport}
 use mathlib.Core.Bool.{true, false}
 use mathlib.Core.List.{List, [], _∷_, map}
@@ -29,6 +29,7 @@ use Rattle.line.specs.declared.Line.{Line}
 use Rattle.line.proofs.Keeps.{line-ok, sending-side, receiving-side}
 use Rattle.mode.specs.Given.{modem}
 use Rattle.relay.specs.RelayTests.{reliable}
+use Rattle.relay.proofs.Lines.{channel-span}
 use Rattle.channel.proofs.Windows.{window-narrow}
 use Rattle.promise.specs.Past.{Mark, Packet, Past}
 use Rattle.promise.specs.Run.{Each, bound}
@@ -92,6 +93,16 @@ module _ {l : Line} (k : Sides l) (channel : ℕ) where
 -- a window and the bound together are within the numbers' span
 pub wide : (channel : ℕ) → windowOf channel + bound ≤ modulus
 wide channel = pick-by (λ (w : ℕ). w + bound ≤ modulus) (eqb channel 1) (λ _. lit≤ tt) (λ _. lit≤ tt)
+
+-- what holds of channels 1 and 2 holds of each that is reliable
+pub on-both : (P : ℕ → Type 0) → P 1 → P 2 → (channel : ℕ) → reliable channel ≡ true → P channel
+on-both P x y channel v = let b = channel-span channel v in go channel (b .0) (b .1)
+  where
+    go : (n : ℕ) → 1 ≤ n → n ≤ 2 → P n
+    go zero l u = absurd (omega arith)
+    go (suc zero) l u = x
+    go (suc (suc zero)) l u = y
+    go (suc (suc (suc n))) l u = absurd (omega arith)
 
 -- in modem relay BOOK has them fit
 pub relay-sides : (l : Line) → lineFits l ≡ true → isOpen l ≡ true → l .modes .local ≡ modem → Sides l

@@ -20,8 +20,15 @@ pub mod NoCallLeftOut
 pub mod StepsKeep
 pub mod TooOld
 pub mod Accepts
+pub mod CameStays
+pub mod BaseHeard
 pub mod Drains
-pub mod Finish
+pub mod ReportCounts
+pub mod Exchanges
+pub mod Sweeps
+pub mod EndsEmpty
+pub mod BasesNamed
+pub mod GoesOn
 pub mod Meets
 pub mod Begins
 pub mod Bodies
@@ -35,5 +42,4 @@ pub mod NotesTrue
 pub mod Demand3
 pub mod AnyWay
 pub mod Witness
-pub mod ReportCounts
 pub mod Isolation

@@ -47,7 +47,7 @@ use Rattle.promise.proofs.LineStays.{mode-line, mode-open, stepped-mode
 use Rattle.promise.proofs.StepsKeep.{Pair, turned, step-kept, fresh-pair, run-kept, run-on}
 use Rattle.promise.proofs.Accepts.{taking-passes}
 use Rattle.promise.proofs.Drains.{relay-step}
-use Rattle.promise.proofs.Finish.{finishes}
+use Rattle.promise.proofs.GoesOn.{settles}
 
 module _ (identifier kind : ℕ) (fitting : settingsFit (record { identifier = identifier; kind = kind; vbd = true; relay = true }) ≡ true) where
   abbrev settings : Settings
@@ -145,7 +145,7 @@ module _ (identifier kind : ℕ) (fitting : settingsFit (record { identifier = i
       let pass = taking-passes (k .mine) (met .mine) (k .joined) [] channel v m some small (omega (arith, none, big)) (omega (arith, none, wide channel)) in
       let left = took-kept (k .mine) refl (k .joined) [] channel m pass in
       let step = relay-step refl c [] refl left (took channel m (call-accepted g c [] pass)) in
-      let d = finishes (step-kept k step) (refl, left .0) (met .yours) channel v in
+      let d = settles (step-kept k step) (refl, left .0) (met .yours) in
       let all : more (justOpened .taken) channel m channel ≡ m ∷ [] = more-here (justOpened .taken) channel m in
       record {
         here = d .here;
@@ -153,8 +153,8 @@ module _ (identifier kind : ℕ) (fitting : settingsFit (record { identifier = i
         there = d .there;
         yours = d .yours;
         run = run-on (run-on (met .run) (here stay step)) (d .goes);
-        taken = d .same ∙ all;
-        handed = d .all ∙ all;
+        taken = ap (λ (f : ℕ → List Message). f channel) (d .taken .0) ∙ all;
+        handed = d .handed channel v .0 ∙ all;
       }
     where
       big : 0 < cap

@@ -1,12 +1,12 @@
 -- The owed list with full numbers goes as the line's own list of words goes: a number that is there already keeps its word when it is renewed.
 -- Assumes nothing.
-use Prim.Native.Nat.{ℕ, _%_}
+use Prim.Native.Nat.{ℕ, suc, _%_, _≤_}
 use mathlib.Core.Path.{_≡_, refl, sym, ap, ap₂, _∙_}
 use mathlib.Core.Bool.{Bool, true, false, _||_}
 use mathlib.Core.List.{List, [], _∷_, _++_, map}
 use native.Mathlib.Omega.{arith}
 use lib.Dec.{eqb, leb}
-use lib.ListN.{length, length-map}
+use lib.ListN.{length, length-append, length-map}
 use borrow.Author.Tests.{eqb-true, eq-eqb, ne-eqb}
 use Rattle.ground.specs.Pick.{pick}
 use Rattle.ground.proofs.Picks.{pick-by, both-true, clash}
@@ -67,6 +67,18 @@ enter-words l m =
     go true false = refl
     go false true = sym (renewed-words m l)
     go false false = sym (map-last l m)
+
+-- it has at most one entry more then
+renewed-length : (m : Mark) (l : List Mark) → length (renewed m l) ≡ length l
+unfolding renewed
+renewed-length m [] = refl
+renewed-length m (x ∷ l) = pick-by (λ (k : List Mark). length k ≡ suc (length l)) (alike x m) (λ _. refl) (λ _. ap suc (renewed-length m l))
+
+pub enter-length : (l : List Mark) (m : Mark) → length (enter l m) ≤ suc (length l)
+unfolding enter
+enter-length l m =
+    pick-by (λ (k : List Mark). length k ≤ suc (length l)) (there m l) (λ _. omega (arith, renewed-length m l))
+    (λ _. pick-by (λ (k : List Mark). length k ≤ suc (length l)) (leb 64 (length l)) (λ _. omega arith) (λ _. omega (arith, length-append l (m ∷ []))))
 
 -- what holds of each of the list, and of what enters, holds of each then
 module _ {P : Mark → Type 0} (m : Mark) (p : P m) where

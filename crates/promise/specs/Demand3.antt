@@ -26,7 +26,8 @@ use Rattle.promise.specs.Build.{Does, Build}
 use Rattle.promise.specs.Past.{Packet, Past}
 use Rattle.promise.specs.Run.{Each, Gateway, freshWith, does, after, accepts, lineAt, Relays, rankedMark, bound, Honest, Run}
 use Rattle.promise.specs.Notes.{Noted}
-use Rattle.promise.specs.Promise.{sendsBy, receivesBy, Promised, InRelay, AllCame, Ample, reportBy, AllOut, CanFinish}
+use Rattle.promise.specs.Promise.{sendsBy, receivesBy, Promised, InRelay, AllCame, Ample, reportBy, AllOut}
+use Rattle.promise.specs.GoesOn.{GoesOn}
 
 -- the call is accepted, and leaves line i open and in modem relay
 pub record Serves (f : Does) (g : Gateway) (i : ℕ) (c : Call) (out : List ℕ) : Type 0 where
@@ -56,11 +57,10 @@ module _ (f : Does) (within i j identifier kind : ℕ) (g : Gateway) (p : Past) 
     -- every packet that the premise speaks of finds the line and is let in
     pub arrives : (s : List ℕ) (packet : Packet) → Honest within p q s packet → (out : List ℕ) → (lineFor (call.arrival s) (g .book) ≡ i) × Serves f g i (call.arrival s) out
 
-  -- "Once both are there": `all-out` is the last sentence; `finishes` says that what it asks for can be done
+  -- "Once both are there": the last sentence
   pub record Ends (channel : ℕ) : Type 0 where
     -- "and every message still unacknowledged is sent and arrives, in any order, all can be handed out"
     pub all-out : AllCame channel g i p q → (outs : ℕ → List ℕ) → Ample outs → AllOut f j channel p h q outs
-    pub finishes : CanFinish f within i j identifier kind channel g p h q
 
 pub record Demand3 (b : Build) : Type 0 where
   -- "Take two fresh gateways .. that open a line with one identifier and payload type": they can, and come to modem relay
@@ -76,3 +76,6 @@ pub record Demand3 (b : Build) : Type 0 where
       → Served (b .does) bound i j identifier kind g p h q
   pub ends : {i j identifier kind : ℕ} {g h : Gateway} {p q : Past} → Run (b .does) bound i j identifier kind g p h q → InRelay g i p → InRelay h j q
       → (channel : ℕ) → reliable channel ≡ true → Ends (b .does) bound i j identifier kind g p h q channel
+  -- and what it asks for can be done: another message can come to be taken, and all be handed out and acknowledged
+  pub goes-on : {i j identifier kind : ℕ} {g h : Gateway} {p q : Past} → Run (b .does) bound i j identifier kind g p h q → InRelay g i p → InRelay h j q
+      → GoesOn (b .does) bound i j identifier kind g p h q

@@ -4,6 +4,7 @@ pub mod Run
 pub mod Notes
 pub mod Ends
 pub mod Promise
+pub mod GoesOn
 pub mod Ours
 pub mod Witness
 pub mod Demand3

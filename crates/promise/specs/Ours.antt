@@ -9,6 +9,7 @@ use Rattle.promise.specs.Past.{Mark, Packet, Past}
 use Rattle.promise.specs.Run.{Gateway, bound}
 use Rattle.promise.specs.Run as run
 use Rattle.promise.specs.Promise as promise
+use Rattle.promise.specs.GoesOn as goes
 
 abbrev pub does : Gateway → Call → List ℕ → CallResult
 does = run.does resultOf
@@ -46,8 +47,11 @@ HandsOut = promise.HandsOut resultOf
 abbrev pub AllOut : ℕ → ℕ → Past → Gateway → Past → (ℕ → List ℕ) → Type 0
 AllOut = promise.AllOut resultOf
 
-abbrev pub CanFinish : ℕ → ℕ → ℕ → ℕ → ℕ → Gateway → Past → Gateway → Past → Type 0
-CanFinish = promise.CanFinish resultOf bound
-
 abbrev pub BothOut : ℕ → ℕ → ℕ → ℕ → Gateway → Past → Gateway → Past → Type 0
 BothOut = promise.BothOut resultOf bound
+
+abbrev pub Settles : ℕ → ℕ → ℕ → ℕ → Gateway → Past → Gateway → Past → Type 0
+Settles = goes.Settles resultOf bound
+
+abbrev pub TakesMore : ℕ → ℕ → ℕ → ℕ → Gateway → Past → Gateway → Past → ℕ → Message → Type 0
+TakesMore = goes.TakesMore resultOf bound

@@ -85,16 +85,6 @@ module _ (f : Does) where
     pub hands : HandsOut j channel outs h q gateway past
     pub all : past .handed channel ≡ p .taken channel
 
-  -- The two can go on from where they are, with nothing more taken on the channel, until all that was taken there is handed out.
-  pub record CanFinish (within i j identifier kind channel : ℕ) (g : Gateway) (p : Past) (h : Gateway) (q : Past) : Type 0 where
-    pub here : Gateway
-    pub mine : Past
-    pub there : Gateway
-    pub yours : Past
-    pub goes : Goes f within i j identifier kind g p h q here mine there yours
-    pub same : mine .taken channel ≡ p .taken channel
-    pub all : yours .handed channel ≡ p .taken channel
-
   -- on both channels: the one end goes on, and the other stays as it is, until all is handed out
   pub record BothOut (within i j identifier kind : ℕ) (g : Gateway) (p : Past) (h : Gateway) (q : Past) : Type 0 where
     pub gateway : Gateway
