@@ -27,6 +27,7 @@ use Rattle.promise.specs.Run as runs
 use Rattle.promise.specs.Promise.{sendsBy, receivesBy, Carried, Promised, InRelay, AllCame, Ample}
 use Rattle.promise.specs.Ours.{Honest, does, after, Provided, Run, reportBy, HandsOut, AllOut, BothOut, TakesMore, Settles}
 use Rattle.promise.specs.Demand3.{Serves, Served, Demand3}
+use Rattle.promise.proofs.AnyBuild.{turned-goes}
 use Rattle.promise.proofs.Ends.{End, turn, on-both}
 use Rattle.promise.proofs.Phases.{is-open}
 use Rattle.promise.proofs.CallsKeep.{LeftIn, took-kept, handed-kept, sent-kept, wrote-kept}
@@ -34,7 +35,7 @@ use Rattle.promise.proofs.Begins.{begins}
 use Rattle.promise.proofs.Promised as line
 use Rattle.promise.proofs.OwnLine.{Passes, call-passes, call-accepted}
 use Rattle.promise.proofs.NoCallLeftOut.{call-adds}
-use Rattle.promise.proofs.StepsKeep.{Pair, turned-goes, run-kept, run-on, arrives-here, arrival-tests, heard-kept}
+use Rattle.promise.proofs.StepsKeep.{Pair, run-kept, run-on, arrives-here, arrival-tests, heard-kept}
 use Rattle.promise.proofs.Accepts.{report-passes, take-passes, send-passes, held-rank, hand-passes, empty-passes}
 use Rattle.promise.proofs.Drains.{drains, hands-go, hands-keep}
 use Rattle.promise.proofs.NotesTrue.{notes-true}

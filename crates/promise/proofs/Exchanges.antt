@@ -14,11 +14,12 @@ use Rattle.promise.specs.Past.{Mark, Packet, Past, wrotePast, heardPast}
 use Rattle.promise.specs.Run.{Gateway, Each, emptyPacket, wrote, heard, here, there}
 use Rattle.promise.specs.Promise.{InRelay}
 use Rattle.promise.specs.Ours.{Recent, Honest, does, after, Adds, Goes}
+use Rattle.promise.proofs.AnyBuild.{turned-goes}
 use Rattle.promise.proofs.Ends.{turn}
 use Rattle.promise.proofs.Phases.{endOf}
 use Rattle.promise.proofs.OwnLine.{Passes, call-accepted}
 use Rattle.promise.proofs.CallsKeep.{LeftIn, wrote-kept}
-use Rattle.promise.proofs.StepsKeep.{Pair, turned, turned-goes, step-kept, arrives-here, heard-kept}
+use Rattle.promise.proofs.StepsKeep.{Pair, turned, step-kept, arrives-here, heard-kept}
 use Rattle.promise.proofs.Accepts.{empty-passes}
 use Rattle.promise.proofs.CameStays.{CameTo, came-wrote, came-heard}
 use Rattle.promise.proofs.Drains.{relay-step}

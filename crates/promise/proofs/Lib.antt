@@ -1,5 +1,6 @@
 pub mod Lists
 pub mod Within
+pub mod AnyBuild
 pub mod Views
 pub mod Ends
 pub mod SendingAnew

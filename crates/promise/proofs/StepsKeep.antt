@@ -36,9 +36,9 @@ use Rattle.laws.proofs.Identifiers.{fresh-passes}
 use Rattle.promise.specs.Past.{Packet, Past, nothingYet, heardPast}
 use Rattle.promise.specs.Run.{Gateway, lineAt, partIn, Relays, refused, elsewhere, moded, reported, took, handed, sent, wrote, heard, before, opens, calls, stay, here, there, freshWith}
 use Rattle.promise.specs.Run as runs
-use Rattle.promise.specs.Build.{Does}
 use Rattle.promise.specs.Ours.{Honest, after, Adds, Step, Goes, Run}
 use Rattle.promise.proofs.Lists.{each-at}
+use Rattle.promise.proofs.AnyBuild.{goes-after}
 use Rattle.promise.proofs.Ends.{Joined, turn}
 use Rattle.promise.proofs.PacketArrives.{arrival-joined, arrival-passes}
 use Rattle.promise.proofs.Fresh.{closed-unused, fresh-joined}
@@ -171,20 +171,6 @@ fresh-pair i j identifier kind store1 store2 lines long =
 pub run-kept : {i j identifier kind : ℕ} {g h : Gateway} {p q : Past} → Run i j identifier kind g p h q → Pair i j identifier kind g p h q
 run-kept {i} {j} {identifier} {kind} r = goes-kept (fresh-pair i j identifier kind (r .store1) (r .store2) (r .lines) (r .long)) (r .goes)
 
--- each way is the other seen from the other end
-pub turned-goes : {f : Does} {within i j identifier kind : ℕ} {g g′ h h′ : Gateway} {p p′ q q′ : Past} → runs.Goes f within i j identifier kind g p h q g′ p′ h′ q′
-    → runs.Goes f within j i identifier kind h q g p h′ q′ g′ p′
-turned-goes stay = stay
-turned-goes (here w s) = there (turned-goes w) s
-turned-goes (there w s) = here (turned-goes w) s
-
--- steps after steps
-pub goes-on : {i j identifier kind : ℕ} {g g′ g″ h h′ h″ : Gateway} {p p′ p″ q q′ q″ : Past} → Goes i j identifier kind g p h q g′ p′ h′ q′ → Goes i j identifier kind g′ p′ h′ q′ g″ p″ h″ q″
-    → Goes i j identifier kind g p h q g″ p″ h″ q″
-goes-on a stay = a
-goes-on a (here w s) = here (goes-on a w) s
-goes-on a (there w s) = there (goes-on a w) s
-
 pub run-on : {i j identifier kind : ℕ} {g g′ h h′ : Gateway} {p p′ q q′ : Past} → Run i j identifier kind g p h q → Goes i j identifier kind g p h q g′ p′ h′ q′
     → Run i j identifier kind g′ p′ h′ q′
-run-on r w = record { store1 = r .store1; store2 = r .store2; lines = r .lines; long = r .long; goes = goes-on (r .goes) w }
+run-on r w = record { store1 = r .store1; store2 = r .store2; lines = r .lines; long = r .long; goes = goes-after (r .goes) w }

@@ -2,6 +2,7 @@ pub mod Idle
 pub mod IdlePackets
 pub mod Careless
 pub mod IdleRuns
+pub mod NeverMoves
 pub mod Ignoring
 pub mod LineByCaller
 pub mod MixedLines

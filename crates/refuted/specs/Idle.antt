@@ -3,14 +3,17 @@
 use Prim.Native.Nat.{ℕ}
 use mathlib.Core.Bool.{Bool}
 use mathlib.Core.List.{List, [], _∷_, _++_}
-use lib.Dec.{ltb}
+use lib.Dec.{eqb, ltb}
 use lib.ListN.{length, drop}
 use Rattle.ground.specs.Answer.{accepted, refused}
 use Rattle.ground.specs.Pick.{pick}
 use Rattle.ground.specs.declared.Refusal.{Refusal}
-use Rattle.packet.specs.Read.{headAt}
+use Rattle.packet.specs.Acks.{ackList}
+use Rattle.packet.specs.Read.{headAt, acksAt, payloadOf}
 use Rattle.line.specs.Line.{receivingOf, withParts}
 use Rattle.line.specs.declared.Line.{Line}
+use Rattle.arriving.specs.Effect.{ackedAll, storedLine}
+use Rattle.arriving.specs.Arrive.{carries}
 use Rattle.book.specs.Book.{lineOf, withLine}
 use Rattle.book.specs.declared.Book.{Book}
 use Rattle.calls.specs.Call as call
@@ -122,3 +125,18 @@ firstOnly = doing (arriving skips)
 -- "A held count made up at will"
 abbrev pub madeUp : ℕ → Build
 madeUp n = doing (instead resultOf resultOf lets (λ c b store out. resultWith (accepted (n ∷ [])) b store out))
+
+-- one that never moves h on: an arriving packet "takes effect in this order: base, acknowledgements as listed, payload", but its base is not heard
+abbrev pub unmoved : Line → List ℕ → Line
+unmoved l s =
+    let m = ackedAll l (ackList (acksAt s)) in
+    pick (carries s) (storedLine m (headAt s .channel) (headAt s .number) (length (payloadOf s))) m
+
+abbrev pub deaf : Arrives
+deaf s b store out =
+    let d = resultOf (call.arrival s) b store out in
+    let i = lineFor (call.arrival s) b in
+    pick (eqb (d .answer .number) 0) (resultWith (d .answer) (withLine b i (unmoved (lineOf b i) s)) (d .store) (d .out)) d
+
+abbrev pub neverMoves : Build
+neverMoves = doing (arriving deaf)
