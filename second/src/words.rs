@@ -6,10 +6,10 @@ use crate::channel::Channel;
 use crate::lines::parts_words;
 use crate::modes::Mode;
 
-/// The most octets in a word, and the most room for output.
+/// The most octets in a word, and the most space for output.
 pub const MOST: usize = 600;
-/// The room for output where none is given.
-const ROOM: usize = 256;
+/// The space for output where none is given.
+const SPACE: usize = 256;
 
 pub struct Words<'a> {
     words: Box<dyn Iterator<Item = &'a [u8]> + 'a>,
@@ -103,7 +103,7 @@ impl<'a> Words<'a> {
     /// The room for output, which is the last word and may be left out.
     pub fn room(&mut self) -> Option<usize> {
         match self.word() {
-            None => Some(ROOM),
+            None => Some(SPACE),
             Some(word) => {
                 self.end()?;
                 let room = usize::try_from(number(word)?).ok()?;

@@ -11,6 +11,7 @@ ghost use Rattle.relay.specs.RelayTests.{reliable};
 ghost use Rattle.arriving.specs.Effect.{Relaying, heardLine, ackedLine, ackedAll, owingLine, storedLine, storedPart};
 use line::Line;
 use packet::Acks;
+use packet::Head;
 use receiving::Arrival;
 use store::Way;
 
@@ -34,7 +35,7 @@ pub fn ack_heard(l: Line, word: u16) -> Line
     ensures { λ r. ⌜ r ≡ ackedLine l word ⌝ }
 {
     let channel = (word >> 14) as u8;
-    let number = (word & 0x3fff) as u32;
+    let number = (word & Head::NUMBER) as u32;
     let side = l.sending(channel);
     let heard = side.acknowledged(number);
     let next = heard.side;

@@ -38,7 +38,7 @@ pub fn may_arrive(l: Line, head: Head, s: &[u8]) -> AcksReading
         AcksReading::Refused(r) => AcksReading::Refused(r),
         AcksReading::Says(acks) => {
             let largest = l.receive_largest() as usize;
-            if packet::payload_fits(s, largest) {
+            if packet::size_fits(head.channel, s.len() - acks.header(), largest) {
                 AcksReading::Says(acks)
             } else {
                 AcksReading::Refused(Refusal::SIZE)
@@ -54,7 +54,7 @@ pub fn arrive(l: Line, part: &mut [u8], head: Head, acks: Acks, s: &[u8]) -> Lin
 {
     let heard = effect::base_heard(l, head.channel, head.base);
     let news = effect::acks_heard(heard, acks);
-    let at = packet::header_length(s);
+    let at = acks.header();
     if s.len() <= at {
         return news;
     }

@@ -23,6 +23,17 @@ pub struct Written {
     pub answer: WriteAnswer,
 }
 
+// RANGE for the line.
+fn number_verdict(line: u8) -> Verdict
+    ensures { λ r. ⌜ r ≡ verdict (lineNumber line ∷ []) ⌝ }
+{
+    if line <= 3 {
+        Verdict::Pass
+    } else {
+        Verdict::Refuse(Refusal::RANGE)
+    }
+}
+
 // BOOK, RANGE for the line.
 pub fn line_verdict(book: Book, line: u8) -> Verdict
     ensures { λ r. ⌜ r ≡ verdict (fitBook book ∷ lineNumber line ∷ []) ⌝ }
@@ -30,11 +41,7 @@ pub fn line_verdict(book: Book, line: u8) -> Verdict
     if !book.fits() {
         return Verdict::Refuse(Refusal::BOOK);
     }
-    if line <= 3 {
-        Verdict::Pass
-    } else {
-        Verdict::Refuse(Refusal::RANGE)
-    }
+    number_verdict(line)
 }
 
 // BOOK, ROOM for the store.
@@ -58,13 +65,7 @@ pub fn store_line_verdict(book: Book, store: usize, line: u8) -> Verdict
     let earlier = store_verdict(book, store);
     match earlier {
         Verdict::Refuse(r) => Verdict::Refuse(r),
-        Verdict::Pass => {
-            if line <= 3 {
-                Verdict::Pass
-            } else {
-                Verdict::Refuse(Refusal::RANGE)
-            }
-        }
+        Verdict::Pass => number_verdict(line),
     }
 }
 

@@ -26,6 +26,9 @@ impl Channel {
     // Sequence numbers are counted modulo this.
     pub const MODULUS: u32 = 16384;
 
+    // The 14 bits of a full number that a packet carries.
+    pub const NUMBER: u32 = 0x3fff;
+
     // The most messages that a channel takes, and that it hands out.
     pub const CAP: u32 = 16777215;
 
@@ -48,7 +51,7 @@ impl Channel {
     }
 }
 
-// (n - h) mod 16,384. The only place with `%`: a number's 14 bits are taken by a mask where it is written.
+// (n - h) mod 16,384. The only place with `%`: where a number is written, its 14 bits are taken by `NUMBER`.
 pub fn distance(n: u32, h: u32) -> u32
     ensures { λ r. ⌜ r ≡ dist n h ⌝ }
 {

@@ -76,7 +76,7 @@ fn read_connect(body: &[u8], out: &mut [u8]) -> Reply {
     }
 }
 
-// `connect write V1 .. V18 [ROOM]`
+// `connect write V1 .. V18 [SPACE]`
 fn write_connect(a: Arguments, octets: &mut [u8]) -> Reply {
     let space = a.space(18, octets.len());
     answer::of_writing(connect::write(&mut octets[0..space], connect_of(a)))
@@ -100,7 +100,7 @@ fn read_break(body: &[u8], out: &mut [u8]) -> Reply {
     }
 }
 
-// `break write SOURCE TYPE LENGTH [ROOM]`
+// `break write SOURCE TYPE LENGTH [SPACE]`
 fn write_break(a: Arguments, octets: &mut [u8]) -> Reply {
     let value = Break {
         source: a.octet(0),

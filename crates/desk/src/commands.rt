@@ -21,7 +21,7 @@ fn open(seat: Seat, a: Arguments) -> Seat {
     seat.with(book, answer::of_opening(answer))
 }
 
-// `close LINE [ROOM]`
+// `close LINE [SPACE]`
 fn close(seat: Seat, a: Arguments, octets: &mut [u8]) -> Seat {
     let space = a.space(1, octets.len());
     let gave = gateway::close(seat.book, a.octet(0), &mut octets[0..space]);
@@ -60,7 +60,7 @@ fn held(seat: Seat, a: Arguments) -> Seat {
     seat.with(seat.book, answer::of_report(report))
 }
 
-// `empty LINE CHANNEL [ROOM]`
+// `empty LINE CHANNEL [SPACE]`
 fn empty(seat: Seat, a: Arguments, octets: &mut [u8]) -> Seat {
     let space = a.space(2, octets.len());
     let gave = gateway::empty(seat.book, a.octet(0), a.octet(1), &mut octets[0..space]);
@@ -77,7 +77,7 @@ fn take(seat: Seat, a: Arguments, store: &mut [u8], message: &[u8]) -> Seat {
     seat.with(book, answer::of_taking(answer))
 }
 
-// `send LINE CHANNEL RANK [ROOM]`
+// `send LINE CHANNEL RANK [SPACE]`
 fn send(seat: Seat, a: Arguments, store: &[u8], octets: &mut [u8]) -> Seat {
     let space = a.space(3, octets.len());
     let gave = gateway::send(
@@ -101,7 +101,7 @@ fn arrive(seat: Seat, store: &mut [u8], packet: &[u8]) -> Seat {
     seat.with(book, answer::of_arrival(answer))
 }
 
-// `out LINE CHANNEL [ROOM]`
+// `out LINE CHANNEL [SPACE]`
 fn hand_out(seat: Seat, a: Arguments, store: &[u8], octets: &mut [u8]) -> Seat {
     let space = a.space(2, octets.len());
     let gave = gateway::hand_out(

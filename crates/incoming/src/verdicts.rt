@@ -3,10 +3,8 @@
 ghost use mathlib.Core.Path.{_≡_};
 ghost use Rattle.ground.specs.Refusal.{verdict, settle};
 ghost use Rattle.calls.specs.Order.{handOutOrder, arriveOrder, packetLine, lineAt};
-ghost use Prim.Native.Nat.{_<_};
 ghost use Rattle.packet.specs.Read.{headAt};
 ghost use Rattle.arriving.specs.Arrive.{arriveTests};
-ghost use Rattle.book.specs.Book.{lineOf};
 ghost use Rattle.calls.specs.Parts.{arrivalTests};
 ghost use Rattle.incoming.specs.Reading.{arrivingAt};
 ghost use Rattle.incoming.specs.declared.ArriveVerdict.{ArriveVerdict};
@@ -16,6 +14,7 @@ use book::Book;
 use book::Owner;
 use ground::Refusal;
 use ground::Verdict;
+use line::Line;
 use packet::AcksReading;
 use packet::Head;
 use packet::HeadReading;
@@ -31,12 +30,12 @@ pub fn may_hand_out(book: Book, store: usize, line: u8, channel: u8, space: usiz
     }
 }
 
-// May a packet arrive at a line: TYPE, MODE, SHORT for the list, CHANNEL, SIZE.
-fn may_arrive_at(book: Book, line: u8, head: Head, s: &[u8]) -> ArriveVerdict
-    requires { ⌜ (line < 4) × (head ≡ headAt (now s)) ⌝ }
-    ensures { λ r. ⌜ r ≡ settle (verdict (arriveTests (lineOf book line) (now (s .entry)))) ArriveVerdict.Refused (ArriveVerdict.Packet (arrivingAt line (now (s .entry)))) ⌝ }
+// May a packet arrive at a line, which has that number: TYPE, MODE, SHORT for the list, CHANNEL, SIZE.
+fn may_arrive_at(l: Line, line: u8, head: Head, s: &[u8]) -> ArriveVerdict
+    requires { ⌜ head ≡ headAt (now s) ⌝ }
+    ensures { λ r. ⌜ r ≡ settle (verdict (arriveTests l (now (s .entry)))) ArriveVerdict.Refused (ArriveVerdict.Packet (arrivingAt line (now (s .entry)))) ⌝ }
 {
-    let reading = arriving::may_arrive(book.line(line), head, s);
+    let reading = arriving::may_arrive(l, head, s);
     match reading {
         AcksReading::Refused(r) => ArriveVerdict::Refused(r),
         AcksReading::Says(acks) => ArriveVerdict::Packet(Arriving { line, head, acks }),
@@ -53,7 +52,7 @@ fn may_arrive_by(book: Book, s: &[u8]) -> ArriveVerdict
         HeadReading::Says(head) => {
             let owner = book.owner_of(head.identifier);
             match owner {
-                Owner::At(i) => may_arrive_at(book, i, head, s),
+                Owner::At(i) => may_arrive_at(book.line(i), i, head, s),
                 Owner::Nobody => ArriveVerdict::Refused(Refusal::NOLINE),
             }
         }

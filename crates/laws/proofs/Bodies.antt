@@ -7,6 +7,7 @@ use Rattle.ground.specs.Refusal.{Test}
 use Rattle.ground.specs.Answer.{Writes, contents}
 use Rattle.ground.specs.declared.WriteAnswer.{WriteAnswer}
 use Rattle.packet.proofs.header_length
+use Rattle.packet.proofs.Acks.header as acks-header
 use Rattle.packet.proofs.read_head
 use Rattle.packet.proofs.acks_served
 use Rattle.packet.proofs.read_acks
@@ -33,6 +34,9 @@ once {octets = octets} {before = before} x y g h =
 -- packets
 pub header-length-determined : Determined header_length.ended header_length.Reads.Learnt
 header-length-determined κs a x y p q m n = (m ∙ sym n, refl)
+
+pub acks-header-determined : Determined acks-header.ended acks-header.Reads.Learnt
+acks-header-determined κs a x y p q m n = (m ∙ sym n, refl)
 
 pub read-head-determined : Determined read_head.ended read_head.Reads.Learnt
 read-head-determined κs a x y p q m n = (m .is ∙ sym (n .is), refl)

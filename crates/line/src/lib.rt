@@ -253,15 +253,31 @@ impl Line {
         if self.opened != Line::OPEN {
             return self.opened == Line::CLOSED;
         }
-        let settings = settings_fit(self.settings());
-        let modes = self.modes.fits();
-        let a = self.sending_fits(1);
-        let b = self.sending_fits(2);
-        let c = self.receiving_fits(1);
-        let d = self.receiving_fits(2);
-        let owed = self.owed.fits();
-        let idle = self.idle();
-        settings & modes & a & b & c & d & owed & ((self.modes.local == Modes::MODEM) | idle)
+        if !settings_fit(self.settings()) {
+            return false;
+        }
+        if !self.modes.fits() {
+            return false;
+        }
+        if !self.sending_fits(1) {
+            return false;
+        }
+        if !self.sending_fits(2) {
+            return false;
+        }
+        if !self.receiving_fits(1) {
+            return false;
+        }
+        if !self.receiving_fits(2) {
+            return false;
+        }
+        if !self.owed.fits() {
+            return false;
+        }
+        if self.modes.local == Modes::MODEM {
+            return true;
+        }
+        self.idle()
     }
 
     // The line once its modes are these, and its channels stay, start fresh or are emptied.

@@ -9,6 +9,7 @@ ghost use Rattle.calls.specs.Result.{resultWith, resultOf};
 ghost use Rattle.outgoing.specs.Says.{takeSays, heldSays};
 use book::Book;
 use calls::Written;
+use channel::Channel;
 use ground::Refusal;
 use ground::Verdict;
 use ground::WriteAnswer;
@@ -46,7 +47,7 @@ pub fn take(book: Book, store: &mut [u8], line: u8, channel: u8, message: &[u8])
         },
         Verdict::Pass => {
             let l = book.line(line);
-            let number = (l.sending(channel).taken & 0x3fff) as u16;
+            let number = (l.sending(channel).taken & Channel::NUMBER) as u16;
             let start = book.part_start(line);
             let end = start + l.part_length();
             let taken = relay::take(l, &mut store[start..end], channel, message);

@@ -12,6 +12,7 @@ use lib.ListN.{length, getD, set, take, drop, length-drop, length-take, take-app
 use lib.Seq.{paste, paste-suc, getD-drop, take-nil, take-take, take-suc, getD-take}
 use borrow.Author.Tests.{eqb-true, eqb-false, eq-eqb, ne-eqb}
 use Rattle.ground.proofs.Picks.{both-true, clash, and-false}
+use Rattle.ground.proofs.Either.{or-false}
 use Rattle.field.specs.Word.{served}
 use Rattle.owed.specs.Owed.{member, noTwice, allSpans}
 
@@ -37,10 +38,6 @@ shift-step xs k i h =
     = paste-suc xs 0 (drop k xs) i 0 (omega arith) (omega (arith, length-drop k xs)) in
     ap₂ (λ (j v : ℕ). set (paste xs 0 (drop k xs) i) j v) (sym (zero-add i)) (sym at) ∙ step
     ∙ ap (λ (j : ℕ). paste xs 0 (drop k xs) j) (sym (add-one i))
-
-or-false : (a : Bool) → (a || false) ≡ a
-or-false true = refl
-or-false false = refl
 
 or-assoc : (a b c : Bool) → ((a || b) || c) ≡ (a || (b || c))
 or-assoc true b c = refl

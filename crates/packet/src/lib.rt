@@ -1,7 +1,7 @@
 // A relay packet, after V.150.1 Annex B (RULES 2.1 to RULES 2.8): what its octets say. One is written in write.rt.
 // Lines, windows and modes are not known here: NOLINE, TYPE and MODE stand between reading the head and reading the list (RULES 14.2).
 ghost use mathlib.Core.Path.{_≡_};
-ghost use Prim.Native.Nat.{_<_};
+ghost use Prim.Native.Nat.{_+_, _*_, _<_};
 ghost use Rattle.ground.specs.Refusal.{verdict};
 ghost use Rattle.ground.specs.Answer.{Gives};
 ghost use Rattle.packet.specs.Acks.{acksServed};
@@ -34,6 +34,20 @@ pub struct Acks {
     pub one: u16,
     pub two: u16,
     pub three: u16,
+}
+
+impl Head {
+    // The 14 bits of a word that are a number; the two above them are a channel, or how many acknowledgements there are.
+    pub const NUMBER: u16 = 0x3fff;
+}
+
+impl Acks {
+    // How many octets a header with these has, and so where the payload begins: six, and two for each.
+    pub fn header(self) -> usize
+        ensures { λ r. ⌜ r ≡ 6 + 2 * self .count ⌝ }
+    {
+        6 + 2 * (self.count as usize)
+    }
 }
 
 // What the first six octets say, or why they say nothing.
@@ -70,7 +84,7 @@ fn number_at(s: &[u8]) -> u16
     if s.len() <= header_length(s) {
         return 0;
     }
-    field::word_at(s, 2) & 0x3fff
+    field::word_at(s, 2) & Head::NUMBER
 }
 
 fn base_at(s: &[u8]) -> u16
@@ -79,7 +93,7 @@ fn base_at(s: &[u8]) -> u16
     if channel_at(s) == 0 {
         return 0;
     }
-    field::word_at(s, 4) & 0x3fff
+    field::word_at(s, 4) & Head::NUMBER
 }
 
 fn head_at(s: &[u8]) -> Head

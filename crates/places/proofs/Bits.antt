@@ -15,15 +15,15 @@ use borrow.Author.Tests.{eqb-true, eqb-false, ne-eqb, eq-eqb}
 use Rattle.ground.proofs.Picks.{pick-by}
 use Rattle.places.specs.Places.{bitOf, withBit, withoutBit, within}
 
--- what lies below 2 ^ k is gone once k places or more are dropped
+-- what lies below 2 ^ k is gone once k offsets or more are dropped
 pub dropped-all : (m k d : ℕ) → m < 2 ^ k → k ≤ d → m / 2 ^ d ≡ 0
 dropped-all m k d h l = div-eq-of-lt (lt-of-lt-of-le h (pow-mono l))
 
--- a mask below 2 ^ k has no place from k on
+-- a mask below 2 ^ k has no offset from k on
 pub bit-past : (m k i : ℕ) → m < 2 ^ k → k ≤ i → bitOf m i ≡ false
 bit-past m k i h l = rw (dropped-all m k i h l)
 
--- the places of a mask that has moved down
+-- the offsets of a mask that has moved down
 pub bit-dropped : (m d i : ℕ) → bitOf (m / 2 ^ d) i ≡ bitOf m (d + i)
 bit-dropped m d i = ap (λ (x : ℕ). eqb (x % 2) 1) (shr-shr m d i)
 
@@ -130,7 +130,7 @@ module _ (m i : ℕ) (t : bitOf m i ≡ true) where
           ∙ ap (λ (x : ℕ). x / 2 / 2 ^ (j - i - 1)) (less-div m (2 ^ i) (pow-pos i) (bit-le m i t))
           ∙ ap (λ (x : ℕ). x / 2 ^ (j - i - 1)) (half (m / 2 ^ i) odd-at) ∙ sym (high m i j above))
 
--- the set without a place: that place is not in it, and each other is as it was
+-- the set without an offset: that offset is not in it, and each other is as it was
 pub without-same : (m i : ℕ) → bitOf (withoutBit m i) i ≡ false
 without-same m i = pick-by (λ (x : ℕ). bitOf x i ≡ false) (bitOf m i) (off-same m i) (λ f. f)
 
@@ -140,7 +140,7 @@ without-other m i j d = pick-by (λ (x : ℕ). bitOf x j ≡ bitOf m j) (bitOf m
 pub without-le : (m i : ℕ) → withoutBit m i ≤ m
 without-le m i = pick-by (λ (n : ℕ). n ≤ m) (bitOf m i) (λ t. omega arith) (λ f. le-refl m)
 
--- the set with a place: that place is in it, and each other is as it was
+-- the set with an offset: that offset is in it, and each other is as it was
 on-same : (m i : ℕ) → bitOf m i ≡ false → bitOf (m + 2 ^ i) i ≡ true
 on-same m i f = ap (λ (x : ℕ). eqb (x % 2) 1) (add-div-right m (pow-pos i)) ∙ eq-eqb _ _ (odd (m / 2 ^ i) (even (m / 2 ^ i) (eqb-false _ _ f)))
   where
@@ -158,7 +158,7 @@ with-same m i = pick-by (λ (x : ℕ). bitOf x i ≡ true) (bitOf m i) (λ t. t)
 pub with-other : (m i j : ℕ) → j ≢ i → bitOf (withBit m i) j ≡ bitOf m j
 with-other m i j d = pick-by (λ (x : ℕ). bitOf x j ≡ bitOf m j) (bitOf m i) (λ t. refl) (λ f. on-other m i j f d)
 
--- and it reaches no further than before, or than that place
+-- and it reaches no further than before, or than that offset
 pub with-lt : (m i n : ℕ) → m < 2 ^ n → i < n → withBit m i < 2 ^ n
 with-lt m i n h l =
     pick-by (λ (x : ℕ). x < 2 ^ n) (bitOf m i) (λ t. h)

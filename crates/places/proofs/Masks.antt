@@ -18,6 +18,6 @@ mask-set m = refl
 pub mask-is : {p : Places} (m : ℕ) → p ≡ setOf m → maskOf p ≡ m
 mask-is m e = ap (λ (q : Places). maskOf q) e ∙ mask-set m
 
--- no place is in the set of none
+-- no offset is in the set of none
 pub none-bit : (i : ℕ) → bitOf (maskOf (setOf 0)) i ≡ false
 none-bit i = rw mask-set (bit-past 0 0 i (pow-pos 0) (omega arith))

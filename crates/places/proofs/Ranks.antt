@@ -1,4 +1,4 @@
--- How many places of a mask lie below one, and which has a given rank.
+-- How many offsets of a mask lie below one, and which has a given rank.
 -- Assumes nothing.
 use Prim.Native.Nat.{ℕ, zero, suc, _+_, _/_, _%_, _^_, _<_, _≤_}
 use mathlib.Core.Path.{_≡_, refl, sym, ap, ap₂, _∙_}
@@ -19,7 +19,7 @@ use Rattle.places.specs.Places.{widest, bitOf, setBelow, countOf, hasRan
 use Rattle.places.specs.declared.Place.{Place}
 use Rattle.places.specs.declared.Place.the-variants.{At, Missing}
 
--- one place more, in the set or not
+-- one offset more, in the set or not
 pub set-in : (m n : ℕ) → bitOf m n ≡ true → setBelow m (suc n) ≡ setBelow m n + 1
 unfolding setBelow
 set-in m n t = rw t
@@ -35,11 +35,11 @@ set-step m n = omega arith
 pub set-mono : (m i j : ℕ) → i ≤ j → setBelow m i ≤ setBelow m j
 set-mono m i j l = le-ind (λ (k : ℕ). setBelow m i ≤ setBelow m k) (omega arith) (λ k q e. omega (arith, set-step m k)) j l
 
--- a place of the set counts among those below any higher one
+-- an offset of the set counts among those below any higher one
 pub set-lt : (m i j : ℕ) → bitOf m i ≡ true → i < j → setBelow m i < setBelow m j
 set-lt m i j t l = omega (arith, set-in m i t, set-mono m (suc i) j (omega arith))
 
--- the count of ones is the count of the places
+-- the count of ones is the count of the offsets
 module _ (m : ℕ) where
   bit-ones : (x : ℕ) → ones (x % 2) ≡ pick (eqb (x % 2) 1) 1 0
   unfolding ones
@@ -70,7 +70,7 @@ module _ (m : ℕ) where
       sum : (x y : ℕ) → x + y ≡ y + x
       sum x y = omega arith
 
-  -- where the mask reaches no further, all its places are counted
+  -- where the mask reaches no further, all its offsets are counted
   pub count-below : (n : ℕ) → m < 2 ^ n → ones m ≡ setBelow m n
   count-below n l = ap ones (sym (mod-eq-of-lt l)) ∙ ones-below n
 
@@ -99,7 +99,7 @@ module _ (P : ℕ → Bool) where
           pick-by (λ (q : Place). q ≡ At i → (i < suc n) × (P i ≡ true)) (P n)
           (λ t s. let k : n ≡ i = cc in (omega arith, rw k at t)) (λ f s. absurd (let z : _≡_ {A = ℕ} 0 1 = cc in omega arith)) e
 
--- the r-th place is in the set, and exactly r places of the set lie below it
+-- the r-th offset is in the set, and exactly r offsets of the set lie below it
 pub rank-holds : (m r i : ℕ) → rankOf m r ≡ At i → (i < widest) × (bitOf m i ≡ true) × (setBelow m i ≡ r)
 unfolding rankOf
 rank-holds m r i e =
@@ -107,7 +107,7 @@ rank-holds m r i e =
     let b = both-true (bitOf m i) (eqb (setBelow m i) r) (h .1) in
     (h .0, b .0, eqb-true _ _ (b .1))
 
--- a lower place of the set has a lower rank
+-- a lower offset of the set has a lower rank
 lower : (m r i : ℕ) → bitOf m i ≡ true → setBelow m i ≡ r → (j : ℕ) → j < i → hasRank m r j ≡ false
 lower m r i t e j l = go (bitOf m j) refl
   where
@@ -119,7 +119,7 @@ pub rank-is : (m r i : ℕ) → i < widest → bitOf m i ≡ true → setBelow m
 unfolding rankOf
 rank-is m r i l t e = lowest-is (hasRank m r) widest i l (rw (t, eq-eqb _ _ e)) (lower m r i t e)
 
--- there is none where no more than r places are in the set
+-- there is none where no more than r offsets are in the set
 pub rank-missing : (m r n : ℕ) → m < 2 ^ n → setBelow m n ≤ r → rankOf m r ≡ Missing
 unfolding rankOf
 rank-missing m r n h l = lowest-none (hasRank m r) widest (λ i q. go i (bitOf m i) refl (decLt i n))
@@ -129,7 +129,7 @@ rank-missing m r n h l = lowest-none (hasRank m r) widest (λ i q. go i (bitOf m
     go i true s (no q) = clash (sym (bit-past m n i h (omega arith)) ∙ s)
     go i false s q = refl
 
--- a place found by its rank is as far as the mask reaches at most
+-- an offset found by its rank is as far as the mask reaches at most
 pub rank-below : (m r i n : ℕ) → m < 2 ^ n → rankOf m r ≡ At i → i < n
 rank-below m r i n h e = go (decLt i n)
   where
@@ -137,11 +137,11 @@ rank-below m r i n h e = go (decLt i n)
     go (yes q) = q
     go (no q) = clash (sym (bit-past m n i h (omega arith)) ∙ rank-holds m r i e .1)
 
--- every place that the mask has room for is counted, as far as the mask reaches
+-- every offset that the mask has room for is counted, as far as the mask reaches
 pub count-reach : (m n : ℕ) → m < 2 ^ n → n ≤ widest → countOf m ≡ setBelow m n
 count-reach m n h l = sym (count-below m widest (lt-of-lt-of-le h (pow-mono l))) ∙ count-below m n h
 
--- a rank below the count is some place's
+-- a rank below the count is some offset's
 pub rank-below-count : (m n r : ℕ) → r < setBelow m n → (i : ℕ) × (i < n) × (bitOf m i ≡ true) × (setBelow m i ≡ r)
 unfolding setBelow
 rank-below-count m zero r l = absurd (omega arith)
@@ -158,6 +158,6 @@ rank-below-count m (suc n) r l = go (decLt r (setBelow m n)) (rank-below-count m
 pub rank-found : (m r : ℕ) → r < countOf m → (i : ℕ) × (rankOf m r ≡ At i)
 rank-found m r l = let f = rank-below-count m widest r l in (f .0, rank-is m r (f .0) (f .1) (f .2) (f .3))
 
--- and every place of the set has a rank below the count
+-- and every offset of the set has a rank below the count
 pub rank-of : (m i : ℕ) → i < widest → bitOf m i ≡ true → (rankOf m (setBelow m i) ≡ At i) × (setBelow m i < countOf m)
 rank-of m i l t = (rank-is m (setBelow m i) i l t refl, set-lt m i widest t l)

@@ -1,4 +1,4 @@
--- How a loop goes through the places of a mask m, lowest first: after i turns what is left, x, is m with i places dropped.
+-- How a loop goes through the offsets of a mask m, lowest first: after i turns what is left, x, is m with i offsets dropped.
 -- Assumes nothing.
 use Prim.Native.Nat.{ℕ, _+_, _/_, _%_, _^_, _<_}
 use mathlib.Core.Path.{_≡_, sym, ap, _∙_}
@@ -17,7 +17,7 @@ pub walk-begins : (m : ℕ) → m ≡ m / 2 ^ 0
 walk-begins m = sym (div-one m)
 
 module _ (m i x : ℕ) (e : x ≡ m / 2 ^ i) where
-  -- the lowest place that is left is place i
+  -- the lowest offset that is left is offset i
   pub walk-at : bitOf x 0 ≡ bitOf m i
   walk-at = ap (λ (y : ℕ). eqb (y % 2) 1) (div-one x ∙ e)
 
@@ -32,6 +32,6 @@ module _ (m i x : ℕ) (e : x ≡ m / 2 ^ i) where
       go (yes q) = q
       go (no q) = clash (sym (not-true _ t) ∙ eq-eqb x 0 (e ∙ dropped-all m n i h (omega arith)))
 
-  -- once nothing is left every place of m was met
+  -- once nothing is left every offset of m was met
   pub walk-ends : not (eqb x 0) ≡ false → m < 2 ^ i
   walk-ends f = within-lt i m (ap (λ (y : ℕ). eqb y 0) (sym e) ∙ not-false _ f)

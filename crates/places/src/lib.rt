@@ -1,4 +1,5 @@
-// A set of places as a mask: place i is in it where bit i is set. It counts from the oldest message, so that moving on is a shift.
+// A set of offsets as a mask: offset i is in it where bit i is set. Offsets count from the oldest message, so that moving on is a shift. With
+// the place of the oldest message an offset gives a message's place in its window (`channel::place`), of which the types have their names.
 // Contracts speak of the mask as a number: a window over 32 needs more words in the struct, and nothing above.
 ghost use mathlib.Core.Path.{_≡_};
 ghost use Prim.Native.Nat.{_/_, _^_, _<_};
@@ -7,28 +8,28 @@ ghost use Rattle.places.specs.Places.{maskOf, setOf, widest, bitOf, with
 
 #[repr(C)]
 pub struct Places {
-    // Bit i stands for place i.
+    // Bit i stands for offset i.
     pub bits: u32,
 }
 
-// What a search for a place finds: the place, or that there is none.
+// What a search for an offset finds: the offset, or that there is none.
 pub enum Place {
     At(u32),
     Missing,
 }
 
 impl Places {
-    // How many places a set has room for: `widest` in the contracts.
+    // How many offsets a set has room for: `widest` in the contracts.
     pub const WIDEST: usize = 32;
 
-    // The set of no places.
+    // The set of no offsets.
     pub fn none() -> Places
         ensures { λ r. ⌜ r ≡ setOf 0 ⌝ }
     {
         Places { bits: 0 }
     }
 
-    // Is place i in the set?
+    // Is offset i in the set?
     pub fn has(self, i: u32) -> bool
         requires { ⌜ i < widest ⌝ }
         ensures { λ r. ⌜ r ≡ bitOf (maskOf self) i ⌝ }
@@ -36,7 +37,7 @@ impl Places {
         (self.bits >> i) & 1 == 1
     }
 
-    // The set with place i in it.
+    // The set with offset i in it.
     pub fn with(self, i: u32) -> Places
         requires { ⌜ i < widest ⌝ }
         ensures { λ r. ⌜ r ≡ setOf (withBit (maskOf self) i) ⌝ }
@@ -49,7 +50,7 @@ impl Places {
         }
     }
 
-    // The set without place i.
+    // The set without offset i.
     pub fn without(self, i: u32) -> Places
         requires { ⌜ i < widest ⌝ }
         ensures { λ r. ⌜ r ≡ setOf (withoutBit (maskOf self) i) ⌝ }
@@ -62,7 +63,7 @@ impl Places {
         self
     }
 
-    // The lowest d places leave, and the others move down by d.
+    // The lowest d offsets leave, and the others move down by d.
     pub fn dropped(self, d: u32) -> Places
         ensures { λ r. ⌜ r ≡ setOf (maskOf self / 2 ^ d) ⌝ }
     {
@@ -74,28 +75,28 @@ impl Places {
         Places::none()
     }
 
-    // Is no place in the set?
+    // Is no offset in the set?
     pub fn empty(self) -> bool
         ensures { λ r. ⌜ r ≡ eqb (maskOf self) 0 ⌝ }
     {
         self.bits == 0
     }
 
-    // Is every place of the set below n?
+    // Is every offset of the set below n?
     pub fn within(self, n: u32) -> bool
         ensures { λ r. ⌜ r ≡ within n (maskOf self) ⌝ }
     {
         self.dropped(n).empty()
     }
 
-    // How many places are in the set.
+    // How many offsets are in the set.
     pub fn count(self) -> u32
         ensures { λ r. ⌜ r ≡ countOf (maskOf self) ⌝ }
     {
         u32::count_ones(self.bits)
     }
 
-    // The place of the set that has exactly `rank` places of the set below it.
+    // The offset of the set that has exactly `rank` offsets of the set below it.
     pub fn rank(self, rank: u32) -> Place
         ensures { λ r. ⌜ r ≡ rankOf (maskOf self) rank ⌝ }
     {

@@ -12,6 +12,7 @@ ghost use Rattle.writing.specs.Write.{wroteLine};
 ghost use Rattle.writing.specs.Send.{sendVerdict, heldPacket, Sendable};
 use crate::SendVerdict;
 use crate::WriteStep;
+use channel::Channel;
 use ground::Refusal;
 use ground::Verdict;
 use line::Line;
@@ -52,7 +53,7 @@ pub fn send(l: Line, part: &[u8], channel: u8, h: Held, out: &mut [u8]) -> Write
     let region = l.region(Way::Sending, channel);
     let at = region.slot(h.place);
     let end = at + h.size as usize;
-    let head = crate::head_for(l, channel, (h.number & 0x3fff) as u16);
+    let head = crate::head_for(l, channel, (h.number & Channel::NUMBER) as u16);
     let acks = crate::acks_for(l);
     let largest = l.send_largest() as usize;
     let answer = packet::write_packet(out, head, acks, &part[at..end], largest);

@@ -11,6 +11,7 @@ ghost use Rattle.ground.specs.declared.Verdict.the-variants.{Pass};
 ghost use Rattle.ground.specs.declared.WriteAnswer.{WriteAnswer};
 ghost use Rattle.line.specs.Fit.{lineFits};
 ghost use Rattle.writing.specs.Write.{acksFor, wroteLine, baseFor, headFor, headerLengthFor, emptyPacket, emptyTests};
+use channel::Channel;
 use ground::Refusal;
 use ground::Verdict;
 use ground::WriteAnswer;
@@ -59,7 +60,7 @@ fn base_for(l: Line, channel: u8) -> u16
     if channel == 0 {
         return 0;
     }
-    (l.receiving(channel).next & 0x3fff) as u16
+    (l.receiving(channel).next & Channel::NUMBER) as u16
 }
 
 // The head of a packet that the line writes.
@@ -80,8 +81,7 @@ pub fn head_for(l: Line, channel: u8, number: u16) -> Head
 pub fn header_length(l: Line) -> usize
     ensures { λ r. ⌜ r ≡ headerLengthFor l ⌝ }
 {
-    let acks = acks_for(l);
-    6 + 2 * (acks.count as usize)
+    acks_for(l).header()
 }
 
 // May an empty packet be written into `space` octets? NOLINE, MODE, CHANNEL, ROOM.

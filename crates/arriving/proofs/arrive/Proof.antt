@@ -1,10 +1,11 @@
 use Rattle.arriving.proofs.Effects.{heard-relaying}
 use Rattle.arriving.proofs.Arrivals.{payload-rest, news-relaying, number-lt, acks-few, arrive-relaying, arrive-size, arrive-reliable, news-all, part-all, payload-line, payload-part, payload-length}
-use Prim.Native.Nat.{_≤_, _<_, ℕ}
+use Prim.Native.Nat.{_+_, _*_, _≤_, _<_, ℕ}
 use Rattle.arriving.specs.Effect.{Relaying, heardLine, ackedAll, storedLine, storedPart}
 use Rattle.arriving.specs.Arrive.{newsLine}
+use Rattle.packet.specs.declared.Acks.{Acks}
 use Rattle.packet.specs.declared.Head.{Head}
-use Rattle.packet.specs.Read.{headAt, headerLength, payloadOf}
+use Rattle.packet.specs.Read.{headAt, acksAt, headerLength, payloadOf}
 use Rattle.packet.specs.Acks.{ackList}
 use denote.Ref.{now}
 use lib.ListN.{length}
@@ -36,13 +37,18 @@ acks-heard-requires c κs =
     let a = c .before .before .before in
     (rw (heard c) (heard-relaying (a .args .l) (relaying a) (headAt (now (a .args .s)) .channel) (headAt (now (a .args .s)) .base)), rw (a .pre .5) (acks-few (now (a .args .s))))
 
-header-length-requires : tie.Need-header-length-requires
-header-length-requires c κs = search needs
+header-requires : tie.Need-header-requires
+header-requires c κs = search needs
+
+-- the payload begins where the list that was read ends
+header-is : (c : tie.After-header) → c .header .result ≡ headerLength (now (c .before .before .before .before .before .args .s))
+unfolding acksAt
+header-is c = c .header .ensures ∙ ap (λ (k : Acks). 6 + 2 * k .count) (c .before .before .before .before .before .pre .5)
 
 returns : tie.Need-returns
 returns c =
     let a = c .before .before .before .before .before .before .args in
-    let q : length (now (a .s)) ≤ headerLength (now (a .s)) = omega (arith, c .if1 .taken, c .before .header-length .ensures) in
+    let q : length (now (a .s)) ≤ headerLength (now (a .s)) = omega (arith, c .if1 .taken, header-is (c .before)) in
     (news (c .before .before) ∙ news-all (a .l) (now (a .s)) q, part-all (a .l) (now (a .s)) q (now (a .part)))
 
 sub-payload-stored : tie.Need-sub-payload-stored
@@ -58,8 +64,8 @@ payload-stored-requires : tie.Need-payload-stored-requires
 payload-stored-requires c κs =
     let a = c .before .before .before .before .before .before .before .before in
     let s : List ℕ = now (a .args .s) in
-    let p : 0 < length (payloadOf s) = omega (arith, c .before .before .if1 .left, c .before .before .before .header-length .ensures, payload-length s) in
-    rw (news (c .before .before .before .before), a .pre .4, payload-rest s (c .before .before .before .header-length .result) (c .before .before .before .header-length .ensures))
+    let p : 0 < length (payloadOf s) = omega (arith, c .before .before .if1 .left, header-is (c .before .before .before), payload-length s) in
+    rw (news (c .before .before .before .before), a .pre .4, payload-rest s (c .before .before .before .header .result) (header-is (c .before .before .before)))
     (news-relaying (a .args .l) (relaying a) s, a .pre .2, arrive-reliable (a .args .l) s (a .pre .3) p, number-lt s, arrive-size (a .args .l) s (a .pre .3))
 
 same-length : tie.Need-same-length
@@ -71,8 +77,8 @@ returns-2 c =
     let l = a .args .l in
     let s : List ℕ = now (a .args .s) in
     let part : List ℕ = now (a .args .part) in
-    let q : headerLength s < length s = omega (arith, c .before .before .before .before .before .if1 .left, c .before .before .before .before .before .before .header-length .ensures) in
-    let r = payload-rest s (c .before .before .before .before .before .before .header-length .result) (c .before .before .before .before .before .before .header-length .ensures) in
+    let q : headerLength s < length s = omega (arith, c .before .before .before .before .before .if1 .left, header-is (c .before .before .before .before .before .before)) in
+    let r = payload-rest s (c .before .before .before .before .before .before .header .result) (header-is (c .before .before .before .before .before .before)) in
     let m = news (c .before .before .before .before .before .before .before) in (
       c .before .before .payload-stored .ensures .0 ∙ (λ i. storedLine (m i) (a .pre .4 i .channel) (a .pre .4 i .number) (length (r i))) ∙ payload-line l s q,
       c .before .before .payload-stored .ensures .1 ∙ (λ i. storedPart (m i) (a .pre .4 i .channel) (a .pre .4 i .number) (r i) part) ∙ payload-part l s q part,
@@ -84,7 +90,7 @@ arrive-spec =
     (tie.spec
     base-heard-requires
     acks-heard-requires
-    header-length-requires
+    header-requires
     returns
     sub-payload-stored
     part-payload-stored-start

@@ -1,11 +1,15 @@
 use Rattle.arriving.proofs.Arrivals.{list-refused, list-said, list-is, arrive-refused, arrive-passed, arrive-large}
 use Rattle.arriving.specs.Arrive.{arriveTests}
-use Rattle.packet.specs.Read.{headAt, payloadFits}
+use Rattle.packet.specs.Read.{headAt, acksAt, headerLength, sizeFits, payloadFits, listTests, acksRead}
+use Rattle.ground.proofs.Verdicts.{passed}
+use Rattle.line.specs.Figures.{receiveLargest}
+use Prim.Native.Nat.{_+_, _-_, _*_, _≤_}
+use lib.ListN.{length}
 use Rattle.packet.specs.declared.Acks.{Acks}
 use Rattle.packet.specs.declared.Head.{Head}
 use Rattle.packet.specs.declared.AcksReading.the-variants.{Says}
 use denote.Ref.{now}
-use borrow.Author.Tests.{eq-eqb, ne-eqb}
+use borrow.Author.Tests.{eq-eqb, ne-eqb, leb-true}
 use mathlib.Core.Path.{_≡_, sym, ap, _∙_}
 use borrow.Author.Needs.{needs}
 use Rattle.arriving.proofs.may_arrive.Statement.{statement}
@@ -38,8 +42,37 @@ receive-largest-requires c κs = search needs
 cast-largest : tie.Need-cast-largest
 cast-largest c = search needs
 
-payload-fits-requires : tie.Need-payload-fits-requires
-payload-fits-requires c κs = search needs
+header-requires : tie.Need-header-requires
+header-requires c κs = search needs
+
+-- the list was read, and lies in the packet
+list-read : (c : tie.After-header) → acksRead (now (c .before .before .before .before .before .before .before .before .before .before .before .before .args .s)) ≡ Says (c .before .before .before .list2 .given .0 .0)
+list-read c = sym (c .before .before .before .before .before .read-acks .ensures .is) ∙ c .before .before .before .list2 .given .1
+
+list-in : (c : tie.After-header) → let s = now (c .before .before .before .before .before .before .before .before .before .before .before .before .args .s) in headerLength s ≤ length s
+list-in c = let s = now (c .before .before .before .before .before .before .before .before .before .before .before .before .args .s) in leb-true _ _ (passed (listTests s) (list-said s (list-read c)) .0)
+
+-- the payload begins where it ends
+header-is : (c : tie.After-header) → c .header .result ≡ headerLength (now (c .before .before .before .before .before .before .before .before .before .before .before .before .args .s))
+unfolding acksAt
+header-is c = c .header .ensures ∙ ap (λ (k : Acks). 6 + 2 * k .count) (list-is (now (c .before .before .before .before .before .before .before .before .before .before .before .before .args .s)) (list-read c))
+
+sub-size-fits : tie.Need-sub-size-fits
+sub-size-fits c =
+    let h = list-in c in
+    let e = header-is c in
+    search needs
+
+size-fits-requires : tie.Need-size-fits-requires
+size-fits-requires c κs = search needs
+
+-- what is asked of the payload's size
+size-is : (c : tie.After-size-fits) → let a = c .before .before .before .before .before .before .before .before .before .before .before .before .before .args in c .size-fits .result ≡ payloadFits (now (a .s)) (receiveLargest (a .l))
+unfolding headAt
+size-is c =
+    let a = c .before .before .before .before .before .before .before .before .before .before .before .before .before in
+    let s = now (a .args .s) in
+    c .size-fits .ensures ∙ (λ i. sizeFits (a .pre i .channel) (length s - header-is (c .before) i) (c .before .before .receive-largest .ensures i))
 
 returns-3 : tie.Need-returns-3
 returns-3 c =
@@ -49,19 +82,16 @@ returns-3 c =
 
 returns-4 : tie.Need-returns-4
 returns-4 c =
-    let a = c .before .before .before .before .before .before .before .before .before .before .before .before .before in
+    let a = c .before .before .before .before .before .before .before .before .before .before .before .before .before .before in
     let s = now (a .args .s) in
-    let e = sym (c .before .before .before .before .before .before .read-acks .ensures .is) ∙ c .before .before .before .before .list2 .given .1 in
-    let f = ap (payloadFits s) (sym (c .before .before .receive-largest .ensures)) ∙ sym (c .before .payload-fits .ensures) ∙ c .if3 .taken in
-    ap (λ (k : Acks). Says k) (list-is s e) ∙ arrive-passed (a .args .l) s (kind-is a ∙ c .before .before .before .before .before .before .before .before .before .if1 .left) (c .before .before .before .before .before .before .before .if2 .left) (list-said s e) f
+    let e = list-read (c .before .before) in
+    ap (λ (k : Acks). Says k) (list-is s e) ∙ arrive-passed (a .args .l) s (kind-is a ∙ c .before .before .before .before .before .before .before .before .before .before .if1 .left) (c .before .before .before .before .before .before .before .before .if2 .left) (list-said s e) (sym (size-is (c .before)) ∙ c .if3 .taken)
 
 returns-5 : tie.Need-returns-5
 returns-5 c =
-    let a = c .before .before .before .before .before .before .before .before .before .before .before .before .before in
+    let a = c .before .before .before .before .before .before .before .before .before .before .before .before .before .before in
     let s = now (a .args .s) in
-    let e = sym (c .before .before .before .before .before .before .read-acks .ensures .is) ∙ c .before .before .before .before .list2 .given .1 in
-    let f = ap (payloadFits s) (sym (c .before .before .receive-largest .ensures)) ∙ sym (c .before .payload-fits .ensures) ∙ c .if3 .left in
-    arrive-large (a .args .l) s (kind-is a ∙ c .before .before .before .before .before .before .before .before .before .if1 .left) (c .before .before .before .before .before .before .before .if2 .left) (list-said s e) f
+    arrive-large (a .args .l) s (kind-is a ∙ c .before .before .before .before .before .before .before .before .before .before .if1 .left) (c .before .before .before .before .before .before .before .before .if2 .left) (list-said s (list-read (c .before .before))) (sym (size-is (c .before)) ∙ c .if3 .left)
 
 pub may-arrive-spec : {M : Type 1} → statement M
 may-arrive-spec =
@@ -74,7 +104,9 @@ may-arrive-spec =
     enum-known-list-2
     receive-largest-requires
     cast-largest
-    payload-fits-requires
+    header-requires
+    sub-size-fits
+    size-fits-requires
     returns-3
     returns-4
     returns-5)

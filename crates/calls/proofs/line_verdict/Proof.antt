@@ -1,4 +1,4 @@
-use borrow.Author.Tests.{le-leb, lt-leb, not-true, not-false}
+use borrow.Author.Tests.{not-true, not-false}
 use borrow.Author.Needs.{needs}
 use Rattle.calls.proofs.line_verdict.Statement.{statement}
 use Rattle.calls.proofs.line_verdict.Tie as tie
@@ -9,11 +9,11 @@ fits-requires c κs = search needs
 returns : tie.Need-returns
 returns c = simp (← c .before .fits2 .ensures, not-true (c .before .fits2 .result) (c .if1 .taken))
 
-returns-2 : tie.Need-returns-2
-returns-2 c = simp (← c .before .before .fits2 .ensures, not-false (c .before .before .fits2 .result) (c .before .if1 .left), le-leb _ _ (c .if2 .taken))
+number-verdict-requires : tie.Need-number-verdict-requires
+number-verdict-requires c κs = search needs
 
-returns-3 : tie.Need-returns-3
-returns-3 c = simp (← c .before .before .fits2 .ensures, not-false (c .before .before .fits2 .result) (c .before .if1 .left), lt-leb _ _ (c .if2 .left))
+returns-2 : tie.Need-returns-2
+returns-2 c = simp (← c .before .before .fits2 .ensures, not-false (c .before .before .fits2 .result) (c .before .if1 .left)) (c .number-verdict .ensures)
 
 pub line-verdict-spec : {M : Type 1} → statement M
-line-verdict-spec = tie.close (tie.spec fits-requires returns returns-2 returns-3)
+line-verdict-spec = tie.close (tie.spec fits-requires returns number-verdict-requires returns-2)

@@ -5,8 +5,11 @@ use lib.ListN.{length}
 use denote.Ref.{now}
 use Rattle.packet.specs.declared.Head.{Head}
 use Rattle.book.specs.Book.{ownerOf}
+use Rattle.ground.specs.Refusal.{verdict}
+use Rattle.line.specs.declared.Line.{Line}
+use Rattle.arriving.specs.Arrive.{arriveTests}
 use Rattle.calls.specs.Order.{packetLine}
-use Rattle.incoming.proofs.Arrivals.{head-passes, head-refuses, head-is, arrival-refused, arrival-nobody, arrival-at, arrival-in}
+use Rattle.incoming.proofs.Arrivals.{arrivesAt, head-passes, head-refuses, head-is, arrival-refused, arrival-nobody, arrival-at, arrival-in}
 use borrow.Author.Needs.{needs}
 use Rattle.incoming.proofs.verdicts.may_arrive_by.Statement.{statement}
 use Rattle.incoming.proofs.verdicts.may_arrive_by.Tie as tie
@@ -32,11 +35,16 @@ owner-is c =
     let a = c .before .before .before .before .before .before .args in
     ap (λ (h : Head). ownerOf (a .book) (h .identifier)) (sym (head-is (now (a .s)) (c .before .before .before .before .read-head .ensures .is) (c .before .before .reading2 .given .1))) ∙ sym (c .owner-of .ensures)
 
-may-arrive-at-requires : tie.Need-may-arrive-at-requires
-may-arrive-at-requires c κs =
+line-requires : tie.Need-line-requires
+line-requires c κs =
     let a = c .before .before .before .before .before .before .before .before .before in
     let k : length (a .args .book .lines) ≡ 4 = many _ (a .args .book .lines) (a .good .0 .1 .1 .0 .1 .0 .1) in
-    (omega (arith, k, arrival-in (a .args .book) (now (a .args .s)) (owner-is (c .before .before .before) ∙ c .before .owner .given .1)), head-is (now (a .args .s)) (c .before .before .before .before .before .before .before .read-head .ensures .is) (c .before .before .before .before .before .reading2 .given .1))
+    omega (arith, k, arrival-in (a .args .book) (now (a .args .s)) (owner-is (c .before .before .before) ∙ c .before .owner .given .1))
+
+may-arrive-at-requires : tie.Need-may-arrive-at-requires
+may-arrive-at-requires c κs =
+    let a = c .before .before .before .before .before .before .before .before .before .before .args in
+    head-is (now (a .s)) (c .before .before .before .before .before .before .before .before .read-head .ensures .is) (c .before .before .before .before .before .before .reading2 .given .1)
 
 enum-told : tie.Need-enum-told
 enum-told c = search needs
@@ -46,8 +54,10 @@ returns c = let a = c .before .before .before .before .before .args in arrival-r
 
 returns-2 : tie.Need-returns-2
 returns-2 c =
-    let a = c .before .before .before .before .before .before .before .before .before .before .args in
-    c .may-arrive-at .ensures ∙ arrival-at (a .book) (now (a .s)) (head-passes (now (a .s)) (c .before .before .before .before .before .before .before .before .read-head .ensures .is) (c .before .before .before .before .before .before .reading2 .given .1)) (owner-is (c .before .before .before .before) ∙ c .before .before .owner .given .1)
+    let a = c .before .before .before .before .before .before .before .before .before .before .before .args in
+    c .may-arrive-at .ensures
+    ∙ ap (λ (l : Line). arrivesAt (c .before .before .before .owner .given .0 .0) (now (a .s)) (verdict (arriveTests l (now (a .s))))) (c .before .line .ensures)
+    ∙ arrival-at (a .book) (now (a .s)) (head-passes (now (a .s)) (c .before .before .before .before .before .before .before .before .before .read-head .ensures .is) (c .before .before .before .before .before .before .before .reading2 .given .1)) (owner-is (c .before .before .before .before .before) ∙ c .before .before .before .owner .given .1)
 
 returns-3 : tie.Need-returns-3
 returns-3 c =
@@ -63,6 +73,7 @@ may-arrive-by-spec =
     enum-known-reading-2
     owner-of-requires
     enum-known-owner
+    line-requires
     may-arrive-at-requires
     enum-told
     returns
