@@ -4,7 +4,7 @@ use Rattle.book.specs.Parts.{partStart}
 use Prim.Native.Nat.{ℕ, suc, _%_, _≤_, _<_}
 use mathlib.Core.Path.{_≡_, refl, sym, ap, subst, _∙_}
 use mathlib.Core.Bool.{Bool, true, false}
-use mathlib.Core.List.{List, [], _∷_, List·Memᴰ·head}
+use mathlib.Core.List.{List, [], _∷_, List·Memᴰ, List·Memᴰ·head}
 use native.Mathlib.Omega.{arith}
 use lib.Dec.{lit≤, ltb, leb, eqb}
 use lib.ListN.{length, take, drop, length-append}
@@ -41,8 +41,9 @@ use Rattle.promise.proofs.OwnLine.{call-passes, line-left}
 use Rattle.promise.proofs.StepsKeep.{run-kept}
 use Rattle.promise.proofs.Promised.{all-have}
 use Rattle.promise.proofs.Demand2.{ours-demand2}
+use Rattle.promise.specs.Notes.{mark}
 use Rattle.refuted.proofs.Twins.{f, Twin, turned, served, alike, ready, S-is, h-is, R-is, next-is, taken-is}
-use Rattle.refuted.proofs.Rounds.{space, At, g₂, p₂, t₂, taken₁, base₂, ranked, g₁, packet, number, wrote₂, honest, said-number, arrival, here, next-there}
+use Rattle.refuted.proofs.Rounds.{space, At, Behind, behind, g₂, p₂, t₂, taken₁, base₂, ranked, g₁, packet, number, wrote₂, honest, said-number, arrival, here, next-there}
 
 -- acknowledgements leave h as it is
 acked-base : (s : Sending) (n : ℕ) → ackedBy s n .base ≡ s .base
@@ -83,6 +84,9 @@ news-base l s k nothing c b e t =
     ∙ ap (λ (x : ℕ). heardLine l x (headAt s .base) .sending1 .base) c ∙ base-heard (l .sending1) k (headAt s .base) e t b
 
 module _ {test : ℕ → ℕ → Bool} {k : ℕ} (less : k < 16384) (a : At test k) (passes : test k k ≡ false) (first : test 0 0 ≡ false) where
+  abbrev b : Behind test k k
+  b = behind a
+
   abbrev few : k ≤ 16384
   few = omega arith
 
@@ -90,43 +94,65 @@ module _ {test : ℕ → ℕ → Bool} {k : ℕ} (less : k < 16384) (a : At test
   h = a .h
 
   abbrev comes : Call
-  comes = arrival few a
+  comes = arrival few b
 
   abbrev s : List ℕ
-  s = packet few a .octets
+  s = packet few b .octets
 
   -- the test lets it pass: both take it in
   not-ignored : test (headAt s .number) (expected s (h .book)) ≡ false
   not-ignored =
-      let n : headAt s .number ≡ k = omega (arith, said-number few a, less) in
-      (λ i. test (n i) (next-there few a i)) ∙ passes
+      let n : headAt s .number ≡ k = omega (arith, said-number few b, less) in
+      (λ i. test (n i) (next-there few b i)) ∙ passes
 
   same : does (f test) h comes [] ≡ does resultOf h comes []
   same = ap (λ (b : Bool). pick b (ignored s (h .book) (h .store) []) (resultOf comes (h .book) (h .store) [])) not-ignored
 
   let-in : Serves resultOf h 0 comes []
-  let-in = served (turned (t₂ few a)) .arrives s (packet few a) (honest few a) [] .1
+  let-in = served (turned (t₂ few b)) .arrives s (packet few b) (honest few b) [] .1
 
   abbrev h₁ : Gateway
   h₁ = after resultOf h comes []
 
   abbrev q₁ : Past
-  q₁ = heardPast (a .q) (packet few a)
+  q₁ = heardPast (a .q) (packet few b)
 
-  t₃ : Twin test h₁ q₁ (g₂ few a) (p₂ few a)
+  pub t₃ : Twin test h₁ q₁ (g₂ few b) (p₂ few b)
   t₃ =
-      alike (turned (t₂ few a)) comes [] (a .twin .yours .0) let-in same (heard s (packet few a) (here few a) (a .twin .yours .1) (honest few a))
-      (heard s (packet few a) (here few a) (a .twin .yours .1) (honest few a))
+      alike (turned (t₂ few b)) comes [] (a .twin .yours .0) let-in same (heard s (packet few b) (here few b) (a .twin .yours .1) (honest few b))
+      (heard s (packet few b) (here few b) (a .twin .yours .1) (honest few b))
+
+  -- the next one may be taken before it is handed out
+  abbrev pub ahead : Behind test k (suc k)
+  ahead =
+      record {
+        g = g₂ few b;
+        p = p₂ few b;
+        h = h₁;
+        q = q₁;
+        twin = turned t₃;
+        taken = taken₁ few b;
+        handed = a .handed;
+        base = base₂ few b;
+        low = omega arith;
+        high = omega arith;
+        silent = ap (drop 3) (a .silent);
+        idle = a .idle;
+        wrote = wrote₂ few b;
+      }
+
+  pub ahead-came : (n : ℕ) → k ≤ n → n < suc k → List·Memᴰ (mark 1 n) (ahead .q .came)
+  ahead-came n l u = let e : n ≡ rankedMark (g₁ few b) 0 1 (ranked few b .0) .number = omega (arith, l, u, number few b) in List·Memᴰ·head (ap (mark 1) e)
 
   -- it is handed out
-  came : AllCame 1 (g₂ few a) 0 (p₂ few a) q₁
+  came : AllCame 1 (g₂ few b) 0 (p₂ few b) q₁
   came n low high full =
-      let e : n ≡ rankedMark (g₁ few a) 0 1 (ranked few a .0) .number = omega (arith, low, high, h-is (turned t₃), S-is (turned t₃), base₂ few a, taken₁ few a, number few a) in
+      let e : n ≡ rankedMark (g₁ few b) 0 1 (ranked few b .0) .number = omega (arith, low, high, h-is (turned t₃), S-is (turned t₃), base₂ few b, taken₁ few b, number few b) in
       List·Memᴰ·head (λ i. record { channel = 1; number = e i })
 
   stored : Full (receivesBy h₁ 0 q₁ 1 .stored (receivesBy h₁ 0 q₁ 1 .R))
   stored =
-      all-have (run-kept (turned t₃ .ours) .joined) 1 refl came (receivesBy h₁ 0 q₁ 1 .R) (omega (arith, R-is (turned t₃), S-is (turned t₃), a .handed, taken₁ few a)) (omega arith)
+      all-have (run-kept (turned t₃ .ours) .joined) 1 refl came (receivesBy h₁ 0 q₁ 1 .R) (omega (arith, R-is (turned t₃), S-is (turned t₃), a .handed, taken₁ few b)) (omega arith)
 
   abbrev handing : Call
   handing = call.handOut 0 1
@@ -140,7 +166,7 @@ module _ {test : ℕ → ℕ → Bool} {k : ℕ} (less : k < 16384) (a : At test
   abbrev q₂ : Past
   q₂ = handedPast q₁ 1 (given (does resultOf h₁ handing space))
 
-  t₄ : Twin test h₂ q₂ (g₂ few a) (p₂ few a)
+  t₄ : Twin test h₂ q₂ (g₂ few b) (p₂ few b)
   t₄ = alike t₃ handing space (a .twin .yours .0) gives refl (handed 1 (gives .accepted)) (handed 1 (gives .accepted))
 
   handed₂ : length (q₂ .handed 1) ≡ suc k
@@ -162,23 +188,23 @@ module _ {test : ℕ → ℕ → Bool} {k : ℕ} (less : k < 16384) (a : At test
   abbrev q₃ : Past
   q₃ = wrotePast q₂ news
 
-  t₅ : Twin test h₃ q₃ (g₂ few a) (p₂ few a)
+  t₅ : Twin test h₃ q₃ (g₂ few b) (p₂ few b)
   t₅ = alike t₄ telling space (a .twin .yours .0) tells refl (wrote 1 (tells .accepted)) (wrote 1 (tells .accepted))
 
-  owes₂ : q₂ .owes ≡ rankedMark (g₁ few a) 0 1 (ranked few a .0) ∷ []
+  owes₂ : q₂ .owes ≡ rankedMark (g₁ few b) 0 1 (ranked few b .0) ∷ []
   unfolding there renewed enter enterAll
-  owes₂ = ap (λ (o : List Mark). enterAll o (rankedMark (g₁ few a) 0 1 (ranked few a .0) ∷ [])) (a .quiet)
+  owes₂ = ap (λ (o : List Mark). enterAll o (rankedMark (g₁ few b) 0 1 (ranked few b .0) ∷ [])) (a .quiet)
 
-  honest₃ : Honest (p₂ few a) q₃ (news .octets) news
+  honest₃ : Honest (p₂ few b) q₃ (news .octets) news
   honest₃ =
-      let near : Recent (p₂ few a .taken) (baseMark h₂ 0 1) = omega (arith, next-is (turned t₄), handed₂, taken₁ few a) in
-      let lately : Recent (p₂ few a .taken) (rankedMark (g₁ few a) 0 1 (ranked few a .0)) = omega (arith, number few a, taken₁ few a) in
+      let near : Recent (p₂ few b .taken) (baseMark h₂ 0 1) = omega (arith, next-is (turned t₄), handed₂, taken₁ few b) in
+      let lately : Recent (p₂ few b .taken) (rankedMark (g₁ few b) 0 1 (ranked few b .0)) = omega (arith, number few b, taken₁ few b) in
       record {
         written = List·Memᴰ·head refl;
         same = refl;
         carries = none;
         names = also near none;
-        acks = subst (λ (o : List Mark). Each (Recent (p₂ few a .taken)) (take 3 o)) (sym owes₂) (also lately none);
+        acks = subst (λ (o : List Mark). Each (Recent (p₂ few b .taken)) (take 3 o)) (sym owes₂) (also lately none);
       }
 
   empty : payloadOf (news .octets) ≡ []
@@ -190,22 +216,22 @@ module _ {test : ℕ → ℕ → Bool} {k : ℕ} (less : k < 16384) (a : At test
   abbrev back : Call
   back = call.arrival (news .octets)
 
-  hears : (lineFor back (g₂ few a .book) ≡ 0) × Serves resultOf (g₂ few a) 0 back []
+  hears : (lineFor back (g₂ few b .book) ≡ 0) × Serves resultOf (g₂ few b) 0 back []
   hears = served (turned t₅) .arrives (news .octets) news honest₃ []
 
-  same₃ : does (f test) (g₂ few a) back [] ≡ does resultOf (g₂ few a) back []
+  same₃ : does (f test) (g₂ few b) back [] ≡ does resultOf (g₂ few b) back []
   same₃ =
-      let g = g₂ few a in
+      let g = g₂ few b in
       let next : expected (news .octets) (g .book) ≡ 0
       = (λ i. receivingOf (lineOf (g .book) (hears .0 i)) (head i .channel) .next) ∙ next-is t₅ ∙ ap length (a .deaf) in
       let e : test (headAt (news .octets) .number) (expected (news .octets) (g .book)) ≡ false = (λ i. test (head i .number) (next i)) ∙ first in
       ap (λ (b : Bool). pick b (ignored (news .octets) (g .book) (g .store) []) (resultOf back (g .book) (g .store) [])) e
 
   abbrev g₃ : Gateway
-  g₃ = after resultOf (g₂ few a) back []
+  g₃ = after resultOf (g₂ few b) back []
 
   abbrev p₃ : Past
-  p₃ = heardPast (p₂ few a) news
+  p₃ = heardPast (p₂ few b) news
 
   t₆ : Twin test g₃ p₃ h₃ q₃
   t₆ =
@@ -215,9 +241,9 @@ module _ {test : ℕ → ℕ → Bool} {k : ℕ} (less : k < 16384) (a : At test
   base₃ : lineAt g₃ 0 .sending1 .base ≡ suc k
   unfolding effect partStart baseFor
   base₃ =
-      let b : headAt (news .octets) .base ≡ suc k % modulus = ap (λ (x : Head). x .base) head ∙ ap (λ (n : ℕ). n % modulus) (next-is (turned t₄) ∙ handed₂) in
-      ap (λ (l : Line). l .sending1 .base) (line-left (run-kept (turned t₅ .ours) .mine) back [] (hears .0) (call-passes (g₂ few a) back [] (hears .1 .accepted)))
-      ∙ news-base (lineAt (g₂ few a) 0) (news .octets) k empty (ap (λ (x : Head). x .channel) head) b (base₂ few a) (taken-is (turned t₅) ∙ taken₁ few a)
+      let tells : headAt (news .octets) .base ≡ suc k % modulus = ap (λ (x : Head). x .base) head ∙ ap (λ (n : ℕ). n % modulus) (next-is (turned t₄) ∙ handed₂) in
+      ap (λ (l : Line). l .sending1 .base) (line-left (run-kept (turned t₅ .ours) .mine) back [] (hears .0) (call-passes (g₂ few b) back [] (hears .1 .accepted)))
+      ∙ news-base (lineAt (g₂ few b) 0) (news .octets) k empty (ap (λ (x : Head). x .channel) head) tells (base₂ few b) (taken-is (turned t₅) ∙ taken₁ few b)
 
   pub round : At test (suc k)
   unfolding enterAll
@@ -228,12 +254,12 @@ module _ {test : ℕ → ℕ → Bool} {k : ℕ} (less : k < 16384) (a : At test
         h = h₃;
         q = q₃;
         twin = t₆;
-        taken = taken₁ few a;
+        taken = taken₁ few b;
         handed = handed₂;
         base = base₃;
         silent = ap (drop 3) (a .silent);
         quiet = ap (drop 3) owes₂;
         idle = a .idle;
         deaf = a .deaf;
-        wrote = wrote₂ few a;
+        wrote = wrote₂ few b;
       }

@@ -11,4 +11,5 @@ pub mod Twins
 pub mod Rounds
 pub mod Answered
 pub mod UpTo
+pub mod NoMoreOut
 pub mod Sharp

@@ -4,7 +4,7 @@
 use Rattle.book.specs.Parts.{partStart}
 use Rattle.line.specs.Line.{closedLine}
 use Rattle.writing.specs.Send.{longestPacket}
-use Prim.Native.Nat.{ℕ, suc, _%_, _≤_, _<_}
+use Prim.Native.Nat.{ℕ, suc, _+_, _%_, _≤_, _<_}
 use mathlib.Core.Path.{_≡_, refl, sym, ap, subst, _∙_}
 use mathlib.Core.Bool.{Bool}
 use mathlib.Core.List.{List, [], _∷_, List·Memᴰ·head}
@@ -47,6 +47,22 @@ space = replicate (longestPacket closedLine) 0
 abbrev pub message : Message
 message = 7 ∷ []
 
+-- n messages were taken, and k of them handed out, whose slots are free again; the sender owes nothing, and nothing goes the other way
+pub record Behind (test : ℕ → ℕ → Bool) (k n : ℕ) : Type 0 where
+  pub g : Gateway
+  pub p : Past
+  pub h : Gateway
+  pub q : Past
+  pub twin : Twin test g p h q
+  pub taken : length (p .taken 1) ≡ n
+  pub handed : length (q .handed 1) ≡ k
+  pub base : lineAt g 0 .sending1 .base ≡ k
+  pub low : k ≤ n
+  pub high : n < k + 32
+  pub silent : p .owes ≡ []
+  pub idle : q .taken 1 ≡ []
+  pub wrote : (m : ℕ) → m < n → Packeted 1 m (p .wrote)
+
 -- k messages were taken, handed out, and their slots are free again; nothing is owed, and nothing goes the other way
 pub record At (test : ℕ → ℕ → Bool) (k : ℕ) : Type 0 where
   pub g : Gateway
@@ -63,6 +79,24 @@ pub record At (test : ℕ → ℕ → Bool) (k : ℕ) : Type 0 where
   pub deaf : p .handed 1 ≡ []
   pub wrote : (n : ℕ) → n < k → Packeted 1 n (p .wrote)
 
+abbrev pub behind : {test : ℕ → ℕ → Bool} {k : ℕ} → At test k → Behind test k k
+behind a =
+    record {
+      g = a .g;
+      p = a .p;
+      h = a .h;
+      q = a .q;
+      twin = a .twin;
+      taken = a .taken;
+      handed = a .handed;
+      base = a .base;
+      low = omega arith;
+      high = omega arith;
+      silent = a .silent;
+      idle = a .idle;
+      wrote = a .wrote;
+    }
+
 -- a message taken leaves h as it was
 pub took-base : {g h : Gateway} {p q : Past} → Run resultOf bound 0 0 5 98 g p h q → (m : Message) → Serves resultOf g 0 (call.taking 0 1 m) []
     → lineAt (after resultOf g (call.taking 0 1 m) []) 0 .sending1 .base ≡ lineAt g 0 .sending1 .base
@@ -71,8 +105,8 @@ took-base {g} r m s =
     let c : Call = call.taking 0 1 m in
     ap (λ (l : Line). l .sending1 .base) (line-left (run-kept r .mine) c [] refl (call-passes g c [] (s .accepted)))
 
--- Message k is taken and written.
-module _ {test : ℕ → ℕ → Bool} {k : ℕ} (few : k ≤ 16384) (a : At test k) where
+-- Message n is taken and written.
+module _ {test : ℕ → ℕ → Bool} {k n : ℕ} (few : n ≤ 16384) (a : Behind test k n) where
   abbrev t : Twin test (a .g) (a .p) (a .h) (a .q)
   t = a .twin
 
@@ -86,29 +120,29 @@ module _ {test : ℕ → ℕ → Bool} {k : ℕ} (few : k ≤ 16384) (a : At tes
   p₁ = tookPast (a .p) 1 message
 
   takes : Serves resultOf (a .g) 0 taking []
-  takes = served t .takes 1 refl message (lit≤ tt) (lit≤ tt) (omega (arith, S-is t, a .taken, few)) (omega (arith, S-is t, h-is t, a .taken, a .base)) []
+  takes = served t .takes 1 refl message (lit≤ tt) (lit≤ tt) (omega (arith, S-is t, a .taken, few)) (omega (arith, S-is t, h-is t, a .taken, a .base, a .high)) []
 
   pub t₁ : Twin test g₁ p₁ (a .h) (a .q)
   t₁ = alike t taking [] (t .mine .0) takes refl (took 1 message (takes .accepted)) (took 1 message (takes .accepted))
 
-  pub taken₁ : length (p₁ .taken 1) ≡ suc k
+  pub taken₁ : length (p₁ .taken 1) ≡ suc n
   taken₁ = omega (arith, length-append (a .p .taken 1) (message ∷ []), a .taken)
 
   base₁ : lineAt g₁ 0 .sending1 .base ≡ k
   base₁ = took-base (t .ours) message takes ∙ a .base
 
   -- it is held, as it has not come yet
-  held₁ : Full (sendsBy g₁ 0 p₁ 1 .held k)
+  held₁ : Full (sendsBy g₁ 0 p₁ 1 .held n)
   held₁ =
-      let c = promised (t₁ .ours) .there 1 refl .held k (omega (arith, R-is t, a .handed)) (omega (arith, S-is t₁, taken₁)) in
+      let c = promised (t₁ .ours) .there 1 refl .held n (omega (arith, R-is t, a .handed, a .low)) (omega (arith, S-is t₁, taken₁)) in
       ⊎-elim (λ e. subst Full (sym e) (c .0))
       (λ e.
-      let u = run-kept (t .ours) .joined .there 1 refl .keeps k (omega (arith, R-is t, a .handed)) (subst Full (sym e) (c .0)) .0 in
+      let u = run-kept (t .ours) .joined .there 1 refl .keeps n (omega (arith, R-is t, a .handed, a .low)) (subst Full (sym e) (c .0)) .0 in
       absurd (omega (arith, u, S-is t, a .taken)))
       (c .1)
 
-  pub ranked : (rank : ℕ) × (rank < reportBy resultOf g₁ 0 1) × (rankedMark g₁ 0 1 rank .number ≡ k)
-  ranked = served t₁ .ranks 1 refl k (omega (arith, h-is t₁, base₁)) (omega (arith, S-is t₁, taken₁)) held₁
+  pub ranked : (rank : ℕ) × (rank < reportBy resultOf g₁ 0 1) × (rankedMark g₁ 0 1 rank .number ≡ n)
+  ranked = served t₁ .ranks 1 refl n (omega (arith, h-is t₁, base₁, a .low)) (omega (arith, S-is t₁, taken₁)) held₁
 
   abbrev pub sending : Call
   sending = call.sending 0 1 (ranked .0)
@@ -132,12 +166,12 @@ module _ {test : ℕ → ℕ → Bool} {k : ℕ} (few : k ≤ 16384) (a : At tes
   unfolding lineFor effect partStart wroteLine
   base₂ = ap (λ (l : Line). l .sending1 .base) (line-left (run-kept (t₁ .ours) .mine) sending space refl (call-passes g₁ sending space (sends .accepted))) ∙ base₁
 
-  pub number : rankedMark g₁ 0 1 (ranked .0) .number ≡ k
+  pub number : rankedMark g₁ 0 1 (ranked .0) .number ≡ n
   number = ranked .2
 
-  pub wrote₂ : (n : ℕ) → n < suc k → Packeted 1 n (p₂ .wrote)
+  pub wrote₂ : (m : ℕ) → m < suc n → Packeted 1 m (p₂ .wrote)
   wrote₂ =
-      below-suc (λ (n : ℕ). Packeted 1 n (p₂ .wrote)) k (λ n l. still-packeted (a .wrote n l))
+      below-suc (λ (m : ℕ). Packeted 1 m (p₂ .wrote)) n (λ m l. still-packeted (a .wrote m l))
       (record { packet = packet; base = _; written = List·Memᴰ·head refl; carries = ap (λ (n : ℕ). mark 1 n ∷ []) number; names = refl; acks = ap (take 3) (a .silent) })
 
   pub honest : Honest (a .q) p₂ (packet .octets) packet
@@ -152,11 +186,11 @@ module _ {test : ℕ → ℕ → Bool} {k : ℕ} (few : k ≤ 16384) (a : At tes
         acks = subst (λ (o : List Mark). Each (Recent (a .q .taken)) (take 3 o)) (sym (a .silent)) none;
       }
 
-  -- its number is k in its 14 bits
+  -- its number is n in its 14 bits
   says : headAt (packet .octets) ≡ headFor (lineAt g₁ 0) 1 (rankedMark g₁ 0 1 (ranked .0) .number % modulus)
   says = ours-demand2 .sending-back g₁ 0 (ready t₁) (t₁ .mine .1) 1 refl (ranked .0) (omega (arith, ranked .1, report-counts (t₁ .ours) 1 refl (t₁ .mine))) space (lit≤ tt) .1 .head-back
 
-  pub said-number : headAt (packet .octets) .number ≡ k % modulus
+  pub said-number : headAt (packet .octets) .number ≡ n % modulus
   said-number = ap (λ (x : Head). x .number) says ∙ ap (λ (n : ℕ). n % modulus) number
 
   pub said-channel : headAt (packet .octets) .channel ≡ 1

@@ -9,6 +9,7 @@ use lib.Dec.{ltb, eqb}
 use lib.ListN.{drop, getD}
 use Rattle.ground.specs.Pick.{pick}
 use Rattle.packet.specs.Read.{headAt}
+use Rattle.channel.specs.Channel.{modulus}
 use Rattle.places.specs.Places.{maskOf, rankOf}
 use Rattle.places.specs.declared.Place.{Place}
 use Rattle.places.specs.declared.Place.the-variants.{At, Missing}
@@ -82,3 +83,10 @@ hashed = doing (arriving mixes)
 -- the report of what line 0 holds, whatever line is asked for
 abbrev pub firstsReport : Build
 firstsReport = doing (instead resultOf resultOf lets (λ c b store out. resultOf (call.report 0 1) b store out))
+
+-- the likelier slip: the number is compared with the last 14 bits of R, so that only a message past the turn of the numbers seems old
+abbrev pub isOlderCut : ℕ → ℕ → Bool
+isOlderCut number next = ltb number (next % modulus)
+
+abbrev pub bySizeCut : Build
+bySizeCut = doing (arriving (ignores isOlderCut))
