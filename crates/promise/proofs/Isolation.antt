@@ -37,12 +37,12 @@ others-same : (i identifier : ℕ) (g : Gateway) → Has g i identifier → Book
 others-same i identifier g has shaped c e out = let k = elsewhere-stays (g .book) i identifier has c (g .store) out shaped e in (k .line, k .part)
 
 -- a gateway whose book passes and whose store is long enough, before a call and after it
-record Fit (g : Gateway) : Type 0 where
-  fits : bookFits (g .book) ≡ true
-  shaped : BookShaped (g .book)
-  long : storeLength (g .book) ≤ length (g .store)
+pub record Fit (g : Gateway) : Type 0 where
+  pub fits : bookFits (g .book) ≡ true
+  pub shaped : BookShaped (g .book)
+  pub long : storeLength (g .book) ≤ length (g .store)
 
-fit-after : (g : Gateway) → Fit g → (c : Call) (out : List ℕ) → Fit (after g c out)
+pub fit-after : (g : Gateway) → Fit g → (c : Call) (out : List ℕ) → Fit (after g c out)
 fit-after g k c out =
     let e = every-call-keeps c (g .book) (g .store) out (k .fits) (k .shaped) in
     record { fits = e .0; shaped = e .1; long = omega (arith, k .long, store-length c (g .book) (g .store) out, starts-same (g .book) (after g c out .book) 4 (λ j l. refl)) }
@@ -58,12 +58,12 @@ module _ (i x : ℕ) (small : i < 4) where
   made = iso.afterAll (ours .does)
 
   -- the two gateways between calls: the line is open in both or closed in both
-  record Between (g h : Gateway) : Type 0 where
-    mine : Fit g
-    yours : Fit h
-    has : Has g i x
-    line : lineAt g i ≡ lineAt h i
-    part : partIn g i ≡ partIn h i
+  pub record Between (g h : Gateway) : Type 0 where
+    pub mine : Fit g
+    pub yours : Fit h
+    pub has : Has g i x
+    pub line : lineAt g i ≡ lineAt h i
+    pub part : partIn g i ≡ partIn h i
 
   turned : {g h : Gateway} → Between g h → Between h g
   turned b =
@@ -88,10 +88,10 @@ module _ (i x : ℕ) (small : i < 4) where
       }
 
   -- what is claimed of the rest
-  record Alike (g h : Gateway) (cs ds : List Calling) : Type 0 where
-    tells : told g cs ≡ told h ds
-    line : lineAt (made g cs) i ≡ lineAt (made h ds) i
-    part : partIn (made g cs) i ≡ partIn (made h ds) i
+  pub record Alike (g h : Gateway) (cs ds : List Calling) : Type 0 where
+    pub tells : told g cs ≡ told h ds
+    pub line : lineAt (made g cs) i ≡ lineAt (made h ds) i
+    pub part : partIn (made g cs) i ≡ partIn (made h ds) i
 
   -- what a call on another line, or on this one, adds to what is told
   others-tell : (g : Gateway) (c : Calling) (cs : List Calling) → forLine i x (c .call) ≡ false → told g (c ∷ cs) ≡ told (after g (c .call) (c .out)) cs
@@ -105,7 +105,7 @@ module _ (i x : ℕ) (small : i < 4) where
   waits {g} {h} cs d ds e r = record { tells = r .tells ∙ sym (others-tell h d ds e); line = r .line; part = r .part }
 
   -- nothing more is called for the line
-  idle : (ds : List Calling) {g h : Gateway} → Between g h → [] ≡ own ds → Alike g h [] ds
+  pub idle : (ds : List Calling) {g h : Gateway} → Between g h → [] ≡ own ds → Alike g h [] ds
   idle [] b e = record { tells = refl; line = b .line; part = b .part }
   idle (d ∷ ds) {g} {h} b e = go (forLine i x (d .call)) refl (idle ds) e
     where

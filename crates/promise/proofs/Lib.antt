@@ -44,3 +44,4 @@ pub mod Demand3
 pub mod AnyWay
 pub mod Witness
 pub mod Isolation
+pub mod OpenedAlike
