@@ -8,14 +8,12 @@ use mathlib.Core.List.{List, [], _∷_, _++_, map, List·Memᴰ, List·Memᴰ·h
 use mathlib.Core.Logic.{⊎-elim}
 use native.Mathlib.Omega.{arith}
 use lib.Dec.{lit≤}
-use lib.ListN.{length, take, drop, replicate, length-append}
+use lib.ListN.{length, take, drop, length-append}
 use Rattle.channel.specs.Channel.{windowOf}
 use Rattle.channel.proofs.Windows.{window-narrow}
 use Rattle.flow.specs.Flow.{Message, Full}
 use Rattle.line.specs.Fit.{settingsFit}
-use Rattle.line.specs.Line.{closedLine}
 use Rattle.relay.specs.RelayTests.{reliable}
-use Rattle.writing.specs.Send.{longestPacket}
 use Rattle.book.specs.Book.{freshBook}
 use Rattle.book.specs.Parts.{storeLength}
 use Rattle.calls.specs.Call as call
@@ -30,11 +28,9 @@ use Rattle.promise.specs.Notes.{mark}
 use Rattle.promise.proofs.SendingAnew.{more-here}
 use Rattle.promise.proofs.StepsKeep.{run-kept, run-on}
 use Rattle.promise.proofs.Drains.{hands-keep}
+use Rattle.promise.proofs.Exchanges.{roomy}
 use Rattle.promise.proofs.Meets.{both-there}
 use Rattle.promise.proofs.Demand3.{turned-run, promised, all-out, hands-run, ours-demand3}
-
-abbrev roomy : List ℕ
-roomy = replicate (longestPacket closedLine) 0
 
 -- packets that carry the messages of these numbers, each with a base and without acknowledgements
 data Carry (c : ℕ) : List Packet → List ℕ → Type 0 where

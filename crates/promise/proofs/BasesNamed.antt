@@ -30,8 +30,8 @@ use Rattle.promise.proofs.OwnLine.{line-left}
 use Rattle.promise.proofs.CallsKeep.{joined-open}
 use Rattle.promise.proofs.StepsKeep.{turned}
 use Rattle.promise.proofs.BaseHeard.{baseOf, base-on, base-reached}
-use Rattle.promise.proofs.Exchanges.{roomy, Now, turned-now, Since, then-since, turned-since, Writes, empties, empty-of, lost, honest, arrived, arrived-since}
-use Rattle.promise.proofs.Sweeps.{none-left, Calm}
+use Rattle.promise.proofs.Exchanges.{none-left, roomy, Now, turned-now, Since, then-since, turned-since, Writes, empties, empty-of, lost, honest, arrived, arrived-since}
+use Rattle.promise.proofs.Sweeps.{Calm}
 
 module _ {i j identifier kind : ℕ} {g₀ h₀ : Gateway} {p₀ q₀ : Past} where
   -- the base of this end is named on channel c, and heard at the other

@@ -1,11 +1,12 @@
--- The two go on from where they are: a packet is written and is lost, or arrives at the peer. Nothing more is taken, and what has come stays.
+-- The two go on from where they are: a packet is written and is lost, or arrives at the peer. Nothing more is taken, and what has come stays. Lost
+-- packets can take along what is owed.
 -- Assumes nothing.
-use Prim.Native.Nat.{ℕ, _+_, _≤_}
+use Prim.Native.Nat.{ℕ, _+_, _≤_, zero, suc, _*_}
 use mathlib.Core.Path.{_≡_, refl}
-use mathlib.Core.List.{List, List·Memᴰ·head}
+use mathlib.Core.List.{List, List·Memᴰ·head, [], _∷_}
 use native.Mathlib.Omega.{arith}
 use lib.Dec.{lit≤}
-use lib.ListN.{length, replicate}
+use lib.ListN.{length, replicate, drop, length-drop}
 use Rattle.line.specs.Line.{closedLine}
 use Rattle.writing.specs.Send.{longestPacket}
 use Rattle.calls.specs.Call.{Call}
@@ -161,3 +162,25 @@ module _ {i j identifier kind : ℕ} {g₀ h₀ : Gateway} {p₀ q₀ : Past} wh
             came-here = w .stays;
             came-there = λ m. came-heard (turned (lost w .pair)) (x .relays-there) m roomy (w .packet .octets) (w .packet) honest;
           }
+
+-- a short list has nothing left
+pub none-left : (n : ℕ) (l : List Mark) → length l ≤ n → drop n l ≡ []
+none-left zero [] q = refl
+none-left zero (m ∷ l) q = absurd (omega arith)
+none-left (suc n) [] q = refl
+none-left (suc n) (m ∷ l) q = none-left n l (omega arith)
+
+module _ {i j identifier kind : ℕ} {g₀ h₀ : Gateway} {p₀ q₀ : Past} where
+  -- What is owed here leaves in empty packets, which are lost.
+  pub record Hushed (k : ℕ) (x : Now i j identifier kind g₀ p₀ h₀ q₀) : Type 0 where
+    pub then : Now i j identifier kind g₀ p₀ h₀ q₀
+    pub since : Since k 0 x then
+    pub quiet : then .mine .owes ≡ []
+    pub same : then .yours .owes ≡ x .yours .owes
+
+  pub hush : (k : ℕ) (x : Now i j identifier kind g₀ p₀ h₀ q₀) → length (x .mine .owes) ≤ k * 3 → Hushed k x
+  hush zero x e = record { then = x; since = none-since x; quiet = none-left 0 (x .mine .owes) e; same = refl }
+  hush (suc k) x e =
+      let w = empty-of x 0 (omega arith) in
+      let r = hush k (lost x w) (omega (arith, length-drop 3 (x .mine .owes))) in
+      record { then = r .then; since = then-since (lost-since x w) (r .since) (omega arith) (omega arith); quiet = r .quiet; same = r .same }

@@ -29,6 +29,7 @@ pub mod Exchanges
 pub mod Sweeps
 pub mod EndsEmpty
 pub mod BasesNamed
+pub mod Quiets
 pub mod GoesOn
 pub mod Meets
 pub mod Begins

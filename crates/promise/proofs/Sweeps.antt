@@ -1,14 +1,14 @@
 -- Every message that is under way comes to the other end: in each round either end writes one packet, with a message that it holds or empty, and both
 -- arrive. So what is owed at one end leaves with its next packet, and two rows of rounds, one of each channel, are enough.
 -- Assumes nothing.
-use Prim.Native.Nat.{ℕ, zero, suc, _+_, _*_, _≤_, _<_}
+use Prim.Native.Nat.{ℕ, zero, suc, _+_, _≤_, _<_}
 use mathlib.Core.Path.{_≡_, refl, sym, ap, subst, _∙_}
 use mathlib.Core.Bool.{true}
-use mathlib.Core.List.{List, [], _∷_, List·Memᴰ·head}
+use mathlib.Core.List.{List, [], List·Memᴰ·head}
 use native.Mathlib.Decide.{decLt}
 use native.Mathlib.Omega.{arith}
 use lib.Dec.{lit≤}
-use lib.ListN.{length, drop, length-drop}
+use lib.ListN.{length, drop}
 use Rattle.ground.proofs.Every.{below-suc}
 use Rattle.sending.specs.Sending.{heldCount}
 use Rattle.channel.specs.Channel.{windowOf}
@@ -19,7 +19,7 @@ use Rattle.line.specs.Line.{sendingOf}
 use Rattle.relay.specs.RelayTests.{reliable}
 use Rattle.writing.specs.Send.{ranked, heldIn}
 use Rattle.calls.specs.Call as call
-use Rattle.promise.specs.Past.{Mark, Past, enterAll}
+use Rattle.promise.specs.Past.{Past, enterAll}
 use Rattle.promise.specs.Run.{Gateway, lineAt, Each, none, also, rankedMark, baseMark, sentPacket, sent}
 use Rattle.promise.specs.Promise.{sendsBy}
 use Rattle.promise.specs.Ours.{Recent, does}
@@ -31,34 +31,13 @@ use Rattle.promise.proofs.StepsKeep.{Pair, turned}
 use Rattle.promise.proofs.OwedNumbers.{enter-length, each-enter}
 use Rattle.promise.proofs.Accepts.{held-rank, send-passes}
 use Rattle.promise.proofs.CameStays.{CameTo, came-sent}
-use Rattle.promise.proofs.Exchanges.{roomy, Now, turned-now, Since, then-since, none-since, turned-since, Writes, empty-of, lost, lost-since, arrived, arrived-since}
-
--- a short list has nothing left
-pub none-left : (n : ℕ) (l : List Mark) → length l ≤ n → drop n l ≡ []
-none-left zero [] q = refl
-none-left zero (m ∷ l) q = absurd (omega arith)
-none-left (suc n) [] q = refl
-none-left (suc n) (m ∷ l) q = none-left n l (omega arith)
+use Rattle.promise.proofs.Exchanges.{roomy, Now, turned-now, Since, then-since, none-since, turned-since, Writes, empty-of, arrived, arrived-since, none-left}
 
 -- what lies below the base has come
 below-base : {i j identifier kind : ℕ} {g h : Gateway} {p q : Past} → Pair i j identifier kind g p h q → (c : ℕ) → reliable c ≡ true → (n : ℕ) → n < sendsBy g i p c .h → CameTo h j q (mark c n)
 below-base k c v n l = record { served = v; have = λ r. absurd (let there = k .joined .there c v in omega (arith, there .low)) }
 
 module _ {i j identifier kind : ℕ} {g₀ h₀ : Gateway} {p₀ q₀ : Past} where
-  -- What is owed here leaves in empty packets, which are lost.
-  pub record Hushed (k : ℕ) (x : Now i j identifier kind g₀ p₀ h₀ q₀) : Type 0 where
-    pub then : Now i j identifier kind g₀ p₀ h₀ q₀
-    pub since : Since k 0 x then
-    pub quiet : then .mine .owes ≡ []
-    pub same : then .yours .owes ≡ x .yours .owes
-
-  pub hush : (k : ℕ) (x : Now i j identifier kind g₀ p₀ h₀ q₀) → length (x .mine .owes) ≤ k * 3 → Hushed k x
-  hush zero x e = record { then = x; since = none-since x; quiet = none-left 0 (x .mine .owes) e; same = refl }
-  hush (suc k) x e =
-      let w = empty-of x 0 (omega arith) in
-      let r = hush k (lost x w) (omega (arith, length-drop 3 (x .mine .owes))) in
-      record { then = r .then; since = then-since (lost-since x w) (r .since) (omega arith) (omega arith); quiet = r .quiet; same = r .same }
-
   -- A packet of this end has come to the other: after it message n of the channel has come there, if there is one.
   record Told (c n : ℕ) (x : Now i j identifier kind g₀ p₀ h₀ q₀) : Type 0 where
     then : Now i j identifier kind g₀ p₀ h₀ q₀
