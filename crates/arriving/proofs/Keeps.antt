@@ -17,7 +17,7 @@ use Rattle.field.specs.Word.{channelOf, numberOf, wordOf}
 use Rattle.packet.specs.Acks.{ackList}
 use Rattle.packet.specs.Read.{headAt, acksAt, payloadOf}
 use Rattle.channel.specs.Distance.{dist}
-use Rattle.channel.specs.Sizes.{sizeFits}
+use Rattle.channel.specs.Sizes.{messageFits}
 use Rattle.sending.specs.Sending.{underWay, heardBase, ackedBy}
 use Rattle.receiving.specs.Receiving.{receivingFits, arrivalPlace, storedAt, arrivedAs}
 use Rattle.sending.specs.declared.Sending.{Sending}
@@ -113,7 +113,7 @@ module _ (l : Line) (k : Relaying l) (h : Shaped l) (channel number : ℕ) (c : 
         quiet = λ q. absurd (q (k .inside));
       }
 
-  pub stored-relaying : (size : ℕ) → sizeFits (receiveLargest l) size ≡ true → Relaying (storedLine l channel number size)
+  pub stored-relaying : (size : ℕ) → messageFits (receiveLargest l) size ≡ true → Relaying (storedLine l channel number size)
   unfolding storedLine
   stored-relaying size f =
       let r : Receiving = receivingOf l channel in
@@ -132,7 +132,7 @@ module _ (l : Line) (s : List ℕ) (fits : lineFits l ≡ true) (opened : isOpen
   relaying : Relaying l
   relaying = arrive-relaying l s pass fits opened
 
-  payload-sized : carries s ≡ true → sizeFits (receiveLargest l) (length (payloadOf s)) ≡ true
+  payload-sized : carries s ≡ true → messageFits (receiveLargest l) (length (payloadOf s)) ≡ true
   payload-sized t = rw (t, le-leb _ _ (arrive-size l s pass))
 
   pub arrived-relaying : Relaying (arrivedLine l s)

@@ -16,7 +16,7 @@ use Rattle.book.specs.Book.{lineOf, bookFits}
 use Rattle.book.specs.Parts.{storeLength}
 use Rattle.book.specs.declared.Book.{Book}
 use Rattle.book.proofs.Facts.{book-ok, line-fits}
-use Rattle.calls.specs.Parts.{fitBook, roomy, lineNumber, mustBeOpen}
+use Rattle.calls.specs.Stages.{fitBook, roomy, lineNumber, mustBeOpen}
 
 pub record OnLine (b : Book) (i : ℕ) : Type 0 where
   pub book : bookFits b ≡ true

@@ -1,5 +1,5 @@
 pub mod FirstTests
-pub mod OrderParts
+pub mod OrderStages
 pub mod Refusing
 pub mod Results
 pub mod Stops

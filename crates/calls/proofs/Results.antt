@@ -21,8 +21,8 @@ use Rattle.book.specs.declared.Book.{Book}
 use Rattle.calls.specs.Call.{Call}
 use Rattle.calls.specs.Call as call
 use Rattle.calls.specs.Order.{order, lineFor}
-use Rattle.calls.specs.Parts.{tests, fitBook, lineNumber, mustBeOpen, modeTests}
-use Rattle.calls.proofs.OrderParts.{order-parts}
+use Rattle.calls.specs.Stages.{tests, fitBook, lineNumber, mustBeOpen, modeTests}
+use Rattle.calls.proofs.OrderStages.{order-stages}
 use Rattle.calls.proofs.Stops.{stops, goes-on}
 use Rattle.calls.specs.Result.{CallResult, resultWith, resultOf, acceptedResult, effect}
 
@@ -52,16 +52,16 @@ module _ (b : Book) (i : ℕ) (a : Act) where
   abbrev earlier : List Test
   earlier = fitBook b ∷ lineNumber i ∷ mustBeOpen (lineOf b i) ∷ []
 
-  mode-parts : (n space : ℕ) → order (call.mode i a) b n space ≡ earlier ++ actTests m a
+  mode-stages : (n space : ℕ) → order (call.mode i a) b n space ≡ earlier ++ actTests m a
   unfolding tests modeTests
-  mode-parts n space = order-parts (call.mode i a) b n space
+  mode-stages n space = order-stages (call.mode i a) b n space
 
   abbrev after : List ℕ → List ℕ → CallResult
   after store out = let o = outcome m a in resultWith (o .said) (withLine b i (steppedTo (lineOf b i) (o .modes) (o .channels))) store out
 
   module _ {v : Verdict} (asked : v ≡ verdict earlier) where
     pub mode-refused : {r : Refusal} → v ≡ Refuse r → (store out : List ℕ) → resultWith (refused r) b store out ≡ resultOf (call.mode i a) b store out
-    mode-refused p store out = sym (did-refused (call.mode i a) b store out (sym (stops earlier (actTests m a) (mode-parts (length store) (length out)) asked p)))
+    mode-refused p store out = sym (did-refused (call.mode i a) b store out (sym (stops earlier (actTests m a) (mode-stages (length store) (length out)) asked p)))
 
     module _ (p : v ≡ Pass) where
       pub moved-did : (store out : List ℕ) → after store out ≡ resultOf (call.mode i a) b store out
@@ -69,7 +69,7 @@ module _ (b : Book) (i : ℕ) (a : Act) where
       moved-did store out = go (verdict (actTests m a)) refl
         where
           its-modes : verdict (order (call.mode i a) b (length store) (length out)) ≡ verdict (actTests m a)
-          its-modes = sym (goes-on earlier (actTests m a) (mode-parts (length store) (length out)) asked p refl)
+          its-modes = sym (goes-on earlier (actTests m a) (mode-stages (length store) (length out)) asked p refl)
 
           go : (w : Verdict) → verdict (actTests m a) ≡ w → after store out ≡ resultOf (call.mode i a) b store out
           go Pass e = ap (λ (s : Answer). resultWith s (withLine b i (steppedTo (lineOf b i) (outcome m a .modes) (outcome m a .channels))) store out) (settles m a .taken e) ∙ sym (result-accepted (call.mode i a) b store out (its-modes ∙ e))

@@ -1,4 +1,4 @@
 pub mod Call
 pub mod Order
-pub mod Parts
+pub mod Stages
 pub mod Result

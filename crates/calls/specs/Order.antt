@@ -12,7 +12,7 @@ use Rattle.slip.specs.Slip.{slipLength}
 use Rattle.packet.specs.Read.{headAt, fixedThere, formPlain, listThere, channelsServed, payloadFits}
 use Rattle.places.specs.Places.{maskOf, bitOf}
 use Rattle.channel.specs.Channel.{cap}
-use Rattle.channel.specs.Sizes.{sizeFits}
+use Rattle.channel.specs.Sizes.{messageFits}
 use Rattle.sending.specs.Sending.{underWay}
 use Rattle.receiving.specs.Receiving.{nextSize}
 use Rattle.mode.specs.Acts as act
@@ -99,7 +99,7 @@ takeOrder b store i channel n =
     ∷ must (isOpen l) NOLINE
     ∷ must (inRelay l) MODE
     ∷ must (reliable channel) CHANNEL
-    ∷ must (sizeFits (sendLargest l) n) SIZE
+    ∷ must (messageFits (sendLargest l) n) SIZE
     ∷ must (ltb (s .taken) cap) SPENT
     ∷ must (ltb (underWay s) (sendWindow l channel)) FULL
     ∷ []
@@ -165,14 +165,14 @@ abbrev pub isSomebody : Owner → Bool
 isSomebody (At i) = true
 isSomebody Nobody = false
 
-abbrev pub lineAt : Owner → ℕ
-lineAt (At i) = i
-lineAt Nobody = 0
+abbrev pub ownerLine : Owner → ℕ
+ownerLine (At i) = i
+ownerLine Nobody = 0
 
 -- "Arrival: SHORT for 6 octets, FORM, NOLINE, TYPE, MODE, SHORT for the list, CHANNEL, SIZE."; s is the packet's octets (RULES 14.2)
 unfoldable pub arriveOrder : Book → ℕ → List ℕ → List Test
 arriveOrder b store s =
-    let l = lineOf b (lineAt (packetLine b s)) in
+    let l = lineOf b (ownerLine (packetLine b s)) in
     must (bookFits b) BOOK
     ∷ must (leb (storeLength b) store) ROOM
     ∷ must (fixedThere s) SHORT
@@ -207,6 +207,6 @@ lineFor (call.mode i a) b = i
 lineFor (call.taking i channel message) b = i
 lineFor (call.sending i channel rank) b = i
 lineFor (call.empty i channel) b = i
-lineFor (call.arrival s) b = lineAt (packetLine b s)
+lineFor (call.arrival s) b = ownerLine (packetLine b s)
 lineFor (call.handOut i channel) b = i
 lineFor (call.report i channel) b = i

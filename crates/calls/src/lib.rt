@@ -8,7 +8,7 @@ ghost use mathlib.Core.List.{[], _∷_};
 ghost use Rattle.ground.specs.Refusal.{verdict};
 ghost use Rattle.book.specs.Book.{lineOf};
 ghost use Rattle.calls.specs.Order.{openOrder, closeOrder};
-ghost use Rattle.calls.specs.Parts.{fitBook, roomy, lineNumber, mustBeOpen, openTests};
+ghost use Rattle.calls.specs.Stages.{fitBook, roomy, lineNumber, mustBeOpen, openTests};
 use book::Book;
 use ground::Refusal;
 use ground::Verdict;

@@ -2,13 +2,13 @@
 ghost use mathlib.Core.Path.{_≡_};
 ghost use Prim.Native.Nat.{_^_, _≤_, _<_};
 ghost use Rattle.places.specs.Places.{maskOf, widest};
-ghost use Rattle.channel.specs.Sizes.{sizeFits, sizesFit};
+ghost use Rattle.channel.specs.Sizes.{messageFits, sizesFit};
 use crate::place;
 use places::Places;
 
 // Has a message 1 to `largest` octets?
 pub fn size_fits(size: u16, largest: u16) -> bool
-    ensures { λ r. ⌜ r ≡ sizeFits largest size ⌝ }
+    ensures { λ r. ⌜ r ≡ messageFits largest size ⌝ }
 {
     (0 < size) & (size <= largest)
 }

@@ -19,7 +19,7 @@ use Rattle.channel.specs.Distance.{dist}
 use Rattle.places.specs.Places.{maskOf, setOf, widest, bitOf}
 use Rattle.receiving.specs.Receiving.{emptiedReceiving, ReceivingOk, freshReceiving, arrivalOf, arrivedAs, storedAt, handTests, handedOut, receivingTests, receivingFits}
 use Rattle.sending.specs.Sending.{SendingOk, freshSending, emptiedSending, underWay, takeTests, tookOne, movedBy, heardBase, droppedAt, ackedBy, sendingTests, sendingFits}
-use Rattle.channel.specs.Sizes.{sizeFits}
+use Rattle.channel.specs.Sizes.{messageFits}
 use Rattle.receiving.specs.declared.Arrival.{Arrival}
 use Rattle.receiving.specs.declared.Receiving.{Receiving}
 use Rattle.sending.specs.declared.Sending.{Sending}
@@ -153,7 +153,7 @@ module _ (w z : ℕ) (narrow : w ≤ widest) where
     sized : Sized w z (s .sizes) (maskOf (s .unacked)) (s .origin)
     sized = sending-sized w z s t
 
-    pub took-keeps : (size : ℕ) → w ≤ length (s .sizes) → verdict (takeTests w s) ≡ Pass → sizeFits z size ≡ true → sendingFits w z
+    pub took-keeps : (size : ℕ) → w ≤ length (s .sizes) → verdict (takeTests w s) ≡ Pass → messageFits z size ≡ true → sendingFits w z
         (tookOne w s size) ≡ true
     unfolding tookOne
     took-keeps size long v f =
@@ -191,7 +191,7 @@ module _ (w z : ℕ) (narrow : w ≤ widest) where
     okay : ReceivingOk w r
     okay = receiving-ok w z r narrow t
 
-    pub arrived-keeps : (n size : ℕ) → w ≤ length (r .sizes) → sizeFits z size ≡ true → receivingFits w z
+    pub arrived-keeps : (n size : ℕ) → w ≤ length (r .sizes) → messageFits z size ≡ true → receivingFits w z
         (arrivedAs w r (arrivalOf w r n) size) ≡ true
     unfolding arrivalOf storedAt
     arrived-keeps n size long f =

@@ -13,7 +13,7 @@ use Rattle.ground.proofs.Every.{apart, every-at, every-all}
 use Rattle.ground.proofs.Picks.{clash}
 use Rattle.channel.specs.Distance.{placeOf}
 use Rattle.places.specs.Places.{bitOf, withBit, withoutBit}
-use Rattle.channel.specs.Sizes.{sizeFits, sizeOf, sizeAt, sizesFit}
+use Rattle.channel.specs.Sizes.{messageFits, sizeOf, sizeAt, sizesFit}
 use Rattle.places.proofs.Bits.{bit-past, bit-dropped, with-other, without-same, without-other}
 use Rattle.channel.proofs.Distances.{place-lt, place-once, place-stays}
 
@@ -28,7 +28,7 @@ bit-below m n i h t = go (decLt i n)
 module _ (w z : ℕ) where
   -- each message of the set has a size that fits
   abbrev pub Sized : List ℕ → ℕ → ℕ → Type 0
-  Sized sizes m origin = (i : ℕ) → i < w → bitOf m i ≡ true → sizeFits z (sizeOf w sizes origin i) ≡ true
+  Sized sizes m origin = (i : ℕ) → i < w → bitOf m i ≡ true → messageFits z (sizeOf w sizes origin i) ≡ true
 
   module _ (sizes : List ℕ) (m origin : ℕ) where
     -- what the test says
@@ -40,24 +40,24 @@ module _ (w z : ℕ) where
     unfolding sizesFit
     sizes-all f = every-all (sizeAt w z sizes m origin) w (λ i l. go i l (bitOf m i) refl)
       where
-        go : (i : ℕ) → i < w → (b : Bool) → bitOf m i ≡ b → pick b (sizeFits z (sizeOf w sizes origin i)) true ≡ true
+        go : (i : ℕ) → i < w → (b : Bool) → bitOf m i ≡ b → pick b (messageFits z (sizeOf w sizes origin i)) true ≡ true
         go i l true e = f i l e
         go i l false e = refl
 
     module _ (f : Sized sizes m origin) (l : origin < w) where
       -- a message more
-      pub sized-with : (k size : ℕ) → k < w → w ≤ length sizes → sizeFits z size ≡ true → Sized (set sizes (placeOf origin k w) size)
+      pub sized-with : (k size : ℕ) → k < w → w ≤ length sizes → messageFits z size ≡ true → Sized (set sizes (placeOf origin k w) size)
           (withBit m k) origin
       sized-with k size q long s =
-          apart (λ i. i < w → bitOf (withBit m k) i ≡ true → sizeFits z (sizeOf w (set sizes (placeOf origin k w) size) origin i) ≡ true) k
-          (λ a b. ap (sizeFits z) (getD-set-same sizes (placeOf origin k w) size 0 (omega (arith, place-lt w origin k l (omega arith)))) ∙ s)
-          (λ i d a b. ap (sizeFits z) (getD-set-other sizes (placeOf origin k w) (placeOf origin i w) size 0 (λ e. d (place-once w origin i k l a q e)))
+          apart (λ i. i < w → bitOf (withBit m k) i ≡ true → messageFits z (sizeOf w (set sizes (placeOf origin k w) size) origin i) ≡ true) k
+          (λ a b. ap (messageFits z) (getD-set-same sizes (placeOf origin k w) size 0 (omega (arith, place-lt w origin k l (omega arith)))) ∙ s)
+          (λ i d a b. ap (messageFits z) (getD-set-other sizes (placeOf origin k w) (placeOf origin i w) size 0 (λ e. d (place-once w origin i k l a q e)))
           ∙ f i a (sym (with-other m k i d) ∙ b))
 
       -- a message less
       pub sized-without : (k : ℕ) → Sized sizes (withoutBit m k) origin
       sized-without k =
-          apart (λ i. i < w → bitOf (withoutBit m k) i ≡ true → sizeFits z (sizeOf w sizes origin i) ≡ true) k
+          apart (λ i. i < w → bitOf (withoutBit m k) i ≡ true → messageFits z (sizeOf w sizes origin i) ≡ true) k
           (λ a b. clash (sym (without-same m k) ∙ b))
           (λ i d a b. f i a (sym (without-other m k i d) ∙ b))
 
@@ -66,4 +66,4 @@ module _ (w z : ℕ) where
       sized-dropped d h i a b =
           let t = sym (bit-dropped m d i) ∙ b in
           let q = bit-below m w (d + i) h t in
-          ap (λ (p : ℕ). sizeFits z (getD sizes p 0)) (place-stays w origin d i l (omega arith)) ∙ f (d + i) q t
+          ap (λ (p : ℕ). messageFits z (getD sizes p 0)) (place-stays w origin d i l (omega arith)) ∙ f (d + i) q t

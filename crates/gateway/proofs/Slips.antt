@@ -23,7 +23,7 @@ use Rattle.line.specs.Fit.{lineFits}
 use Rattle.line.specs.Figures.{receiveWindow, receiveLargest}
 use Rattle.line.specs.declared.Line.{Line}
 use Rattle.line.proofs.Keeps.{line-ok}
-use Rattle.calls.specs.Parts.{closeTests}
+use Rattle.calls.specs.Stages.{closeTests}
 use Rattle.calls.specs.Result.{slipOf}
 
 -- "handed out at most as many": a count has its 24 bits

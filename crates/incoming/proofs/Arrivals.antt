@@ -24,8 +24,8 @@ use Rattle.book.specs.Book.{lineOf}
 use Rattle.book.specs.declared.Book.{Book}
 use Rattle.book.proofs.OneOwner.{whose-at}
 use Rattle.book.specs.declared.Owner.the-variants.{At, Nobody}
-use Rattle.calls.specs.Order.{packetLine, isSomebody, lineAt}
-use Rattle.calls.specs.Parts.{addressTests, arrivalTests}
+use Rattle.calls.specs.Order.{packetLine, isSomebody, ownerLine}
+use Rattle.calls.specs.Stages.{addressTests, arrivalTests}
 use Rattle.incoming.specs.Reading.{arrivingAt}
 use Rattle.incoming.specs.declared.ArriveVerdict.{ArriveVerdict}
 use Rattle.incoming.specs.declared.ArriveVerdict.the-variants as may
@@ -80,13 +80,13 @@ module _ (i : ℕ) (s : List ℕ) (v : Verdict) {r : AcksReading} (e : r ≡ set
 
 module _ (b : Book) (s : List ℕ) where
   abbrev pub arrives : Verdict → ArriveVerdict
-  arrives = arrivesAt (lineAt (packetLine b s)) s
+  arrives = arrivesAt (ownerLine (packetLine b s)) s
 
   abbrev last : List Test
   last = must (isSomebody (packetLine b s)) NOLINE ∷ []
 
   abbrev asks : List Test
-  asks = arriveTests (lineOf b (lineAt (packetLine b s))) s
+  asks = arriveTests (lineOf b (ownerLine (packetLine b s))) s
 
   -- the head is refused
   pub arrival-refused : {x : Refusal} → verdict (headTests s) ≡ Refuse x → may.Refused x ≡ arrives (verdict (arrivalTests b s))
@@ -106,7 +106,7 @@ module _ (b : Book) (s : List ℕ) where
     unfolding arrivalTests addressTests
     arrival-at p =
         let f : verdict (addressTests b s) ≡ Pass = verdict-on (headTests s) last e ∙ simp p in
-        let g = ap lineAt (sym p) in
+        let g = ap ownerLine (sym p) in
         (λ t. arrivesAt (g t) s (verdict (arriveTests (lineOf b (g t)) s))) ∙ ap arrives (sym (verdict-on (addressTests b s) asks f))
 
   -- the line that has it is one of the book's

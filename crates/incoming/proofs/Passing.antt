@@ -33,9 +33,9 @@ use Rattle.book.specs.declared.Owner.{Owner}
 use Rattle.book.specs.declared.Owner.the-variants.{At, Nobody}
 use Rattle.book.proofs.Facts.{line-fits}
 use Rattle.book.proofs.OneOwner.{whose-at}
-use Rattle.calls.specs.Order.{arriveOrder, packetLine, isSomebody, lineAt}
-use Rattle.calls.specs.Parts.{fitBook, roomy, addressTests, arrivalTests}
-use Rattle.calls.proofs.OrderParts.{arrive-parts}
+use Rattle.calls.specs.Order.{arriveOrder, packetLine, isSomebody, ownerLine}
+use Rattle.calls.specs.Stages.{fitBook, roomy, addressTests, arrivalTests}
+use Rattle.calls.proofs.OrderStages.{arrive-stages}
 use Rattle.incoming.specs.Reading.{arrivingAt}
 use Rattle.incoming.specs.declared.Arriving.{Arriving}
 use Rattle.incoming.specs.declared.ArriveVerdict.{ArriveVerdict}
@@ -61,20 +61,20 @@ pub record Addressed (b : Book) (n : ℕ) (s : List ℕ) (i : ℕ) : Type 0 wher
   pub line : verdict (arriveTests (lineOf b i) s) ≡ Pass
 
 -- a packet whose address passes has its owner
-pub address-owner : (b : Book) (s : List ℕ) → verdict (addressTests b s) ≡ Pass → packetLine b s ≡ At (lineAt (packetLine b s))
+pub address-owner : (b : Book) (s : List ℕ) → verdict (addressTests b s) ≡ Pass → packetLine b s ≡ At (ownerLine (packetLine b s))
 unfolding addressTests
 address-owner b s e =
     let h = pass-both (headTests s) (must (isSomebody (packetLine b s)) NOLINE ∷ []) e in
     somebody (packetLine b s) (passed (must (isSomebody (packetLine b s)) NOLINE ∷ []) (h .1) .0)
   where
-    somebody : (w : Owner) → isSomebody w ≡ true → w ≡ At (lineAt w)
+    somebody : (w : Owner) → isSomebody w ≡ true → w ≡ At (ownerLine w)
     somebody (At j) t = refl
     somebody Nobody t = absurd (let z : _≡_ {A = ℕ} 0 1 = cc in omega arith)
 
-pub addressed : (b : Book) (n : ℕ) (s : List ℕ) → verdict (fitBook b ∷ roomy b n ∷ arrivalTests b s) ≡ Pass → Addressed b n s (lineAt (packetLine b s))
+pub addressed : (b : Book) (n : ℕ) (s : List ℕ) → verdict (fitBook b ∷ roomy b n ∷ arrivalTests b s) ≡ Pass → Addressed b n s (ownerLine (packetLine b s))
 unfolding arrivalTests addressTests
 addressed b n s e =
-    let i = lineAt (packetLine b s) in
+    let i = ownerLine (packetLine b s) in
     let p = pass-both (fitBook b ∷ roomy b n ∷ []) (arrivalTests b s) e in
     let t = passed (fitBook b ∷ roomy b n ∷ []) (p .0) in
     let q = pass-both (addressTests b s) (arriveTests (lineOf b i) s) (p .1) in
@@ -83,7 +83,7 @@ addressed b n s e =
     let w = whose-at b (headAt s .identifier) i o in
     record { book = t .0; store = leb-true _ _ (t .1 .0); owner = o; number = w .0; opened = w .1; fits = line-fits b (t .0) i; head = h .0; line = q .1 }
 
-module _ (b : Book) (n : ℕ) (s : List ℕ) {r : ArriveVerdict} (e : r ≡ settle (verdict (arriveOrder b n s)) arrives.Refused (arrives.Packet (arrivingAt (lineAt (packetLine b s)) s))) where
+module _ (b : Book) (n : ℕ) (s : List ℕ) {r : ArriveVerdict} (e : r ≡ settle (verdict (arriveOrder b n s)) arrives.Refused (arrives.Packet (arrivingAt (ownerLine (packetLine b s)) s))) where
   pub arrive-refuses : {x : Refusal} → r ≡ arrives.Refused x → verdict (arriveOrder b n s) ≡ Refuse x
   arrive-refuses p = verdict-of-answer whyArrive (verdict (arriveOrder b n s)) e (λ x. refl) refl ∙ ap whyArrive p
 
@@ -92,16 +92,16 @@ module _ (b : Book) (n : ℕ) (s : List ℕ) {r : ArriveVerdict} (e : r ≡ sett
     arrive-passes = verdict-of-answer whyArrive (verdict (arriveOrder b n s)) e (λ x. refl) refl ∙ ap whyArrive p
 
     -- what was read is what the octets say
-    pub arrive-is : a ≡ arrivingAt (lineAt (packetLine b s)) s
+    pub arrive-is : a ≡ arrivingAt (ownerLine (packetLine b s)) s
     arrive-is =
-        ap (packetOr (arrivingAt (lineAt (packetLine b s)) s))
-        (sym p ∙ e ∙ ap (λ (v : Verdict). settle {A = ArriveVerdict} v arrives.Refused (arrives.Packet (arrivingAt (lineAt (packetLine b s)) s))) arrive-passes)
+        ap (packetOr (arrivingAt (ownerLine (packetLine b s)) s))
+        (sym p ∙ e ∙ ap (λ (v : Verdict). settle {A = ArriveVerdict} v arrives.Refused (arrives.Packet (arrivingAt (ownerLine (packetLine b s)) s))) arrive-passes)
 
-    pub arrive-line : lineAt (packetLine b s) ≡ a .line
+    pub arrive-line : ownerLine (packetLine b s) ≡ a .line
     arrive-line = sym (ap (λ (x : Arriving). x .line) arrive-is)
 
     pub arrive-addressed : Addressed b n s (a .line)
-    arrive-addressed = rw arrive-line at (addressed b n s (sym (ap verdict (arrive-parts b n s)) ∙ arrive-passes))
+    arrive-addressed = rw arrive-line at (addressed b n s (sym (ap verdict (arrive-stages b n s)) ∙ arrive-passes))
 
 -- the message handed out has as many octets as its size says
 pub handed-length : (l : Line) (channel space : ℕ) (part : List ℕ) → lineFits l ≡ true → partLength l ≤ length part → verdict (handCallTests l channel space) ≡ Pass

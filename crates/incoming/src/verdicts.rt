@@ -2,10 +2,10 @@
 // the store and of the output only the length counts. What an accepted call does stands beside this file, in lib.rt.
 ghost use mathlib.Core.Path.{_≡_};
 ghost use Rattle.ground.specs.Refusal.{verdict, settle};
-ghost use Rattle.calls.specs.Order.{handOutOrder, arriveOrder, packetLine, lineAt};
+ghost use Rattle.calls.specs.Order.{handOutOrder, arriveOrder, packetLine, ownerLine};
 ghost use Rattle.packet.specs.Read.{headAt};
 ghost use Rattle.arriving.specs.Arrive.{arriveTests};
-ghost use Rattle.calls.specs.Parts.{arrivalTests};
+ghost use Rattle.calls.specs.Stages.{arrivalTests};
 ghost use Rattle.incoming.specs.Reading.{arrivingAt};
 ghost use Rattle.incoming.specs.declared.ArriveVerdict.{ArriveVerdict};
 use crate::ArriveVerdict;
@@ -44,7 +44,7 @@ fn may_arrive_at(l: Line, line: u8, head: Head, s: &[u8]) -> ArriveVerdict
 
 // May it arrive at the open line that has its identifier? SHORT for 6 octets, FORM, NOLINE, and what that line asks.
 fn may_arrive_by(book: Book, s: &[u8]) -> ArriveVerdict
-    ensures { λ r. ⌜ r ≡ settle (verdict (arrivalTests book (now (s .entry)))) ArriveVerdict.Refused (ArriveVerdict.Packet (arrivingAt (lineAt (packetLine book (now (s .entry)))) (now (s .entry)))) ⌝ }
+    ensures { λ r. ⌜ r ≡ settle (verdict (arrivalTests book (now (s .entry)))) ArriveVerdict.Refused (ArriveVerdict.Packet (arrivingAt (ownerLine (packetLine book (now (s .entry)))) (now (s .entry)))) ⌝ }
 {
     let reading = packet::read_head(s);
     match reading {
@@ -61,7 +61,7 @@ fn may_arrive_by(book: Book, s: &[u8]) -> ArriveVerdict
 
 // May a packet arrive, and at which line?
 pub fn may_arrive(book: Book, store: usize, s: &[u8]) -> ArriveVerdict
-    ensures { λ r. ⌜ r ≡ settle (verdict (arriveOrder book store (now (s .entry)))) ArriveVerdict.Refused (ArriveVerdict.Packet (arrivingAt (lineAt (packetLine book (now (s .entry)))) (now (s .entry)))) ⌝ }
+    ensures { λ r. ⌜ r ≡ settle (verdict (arriveOrder book store (now (s .entry)))) ArriveVerdict.Refused (ArriveVerdict.Packet (arrivingAt (ownerLine (packetLine book (now (s .entry)))) (now (s .entry)))) ⌝ }
 {
     let earlier = calls::store_verdict(book, store);
     match earlier {

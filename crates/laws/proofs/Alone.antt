@@ -39,10 +39,10 @@ use Rattle.book.proofs.OneOwner.{whose-found}
 use Rattle.book.proofs.Parts.{part-in, part-long, part-put}
 use Rattle.calls.specs.Call.{Call}
 use Rattle.calls.specs.Call as call
-use Rattle.calls.specs.Order.{lineFor, packetLine, isSomebody, lineAt}
-use Rattle.calls.specs.Parts.{tests, fitBook, roomy, lineNumber, openTests, closeTests, modeTests, addressTests, arrivalTests}
+use Rattle.calls.specs.Order.{lineFor, packetLine, isSomebody, ownerLine}
+use Rattle.calls.specs.Stages.{tests, fitBook, roomy, lineNumber, openTests, closeTests, modeTests, addressTests, arrivalTests}
 use Rattle.calls.specs.Result.{Effect, resultOf, effect}
-use Rattle.calls.proofs.OrderParts.{in-parts}
+use Rattle.calls.proofs.OrderStages.{in-stages}
 use Rattle.calls.proofs.Results.{did-refused}
 use Rattle.laws.specs.LineCalls.{forLine, SameOnLine}
 use Rattle.laws.proofs.OwnLine.{leaves-at}
@@ -93,7 +93,7 @@ module _ {b : Book} {store : List ℕ} {i : ℕ} (o : OpenAt b store i) where
   line-for (call.taking j channel message) e = eqb-true j i e
   line-for (call.sending j channel rank) e = eqb-true j i e
   line-for (call.empty j channel) e = eqb-true j i e
-  line-for (call.arrival s) e = ap lineAt (owner s (eqb-true _ _ e))
+  line-for (call.arrival s) e = ap ownerLine (owner s (eqb-true _ _ e))
   line-for (call.handOut j channel) e = eqb-true j i e
   line-for (call.report j channel) e = eqb-true j i e
 
@@ -119,7 +119,7 @@ module _ {b : Book} {store : List ℕ} {i : ℕ} (o : OpenAt b store i) where
   own-verdict (call.sending j channel rank) e space = on-lent (λ l. sendTests l channel rank space) j (eqb-true j i e)
   own-verdict (call.empty j channel) e space = on-line (λ l. emptyTests l channel space) j (eqb-true j i e)
   own-verdict (call.arrival s) e space =
-      ap (λ (w : Owner). verdict (fitBook b ∷ roomy b (length store) ∷ ((headTests s ++ (must (isSomebody w) NOLINE ∷ [])) ++ arriveTests (lineOf b (lineAt w)) s))) (owner s (eqb-true _ _ e))
+      ap (λ (w : Owner). verdict (fitBook b ∷ roomy b (length store) ∷ ((headTests s ++ (must (isSomebody w) NOLINE ∷ [])) ++ arriveTests (lineOf b (ownerLine w)) s))) (owner s (eqb-true _ _ e))
       ∙ rw (o .fits, lent)
   own-verdict (call.handOut j channel) e space = on-lent (λ l. handCallTests l channel space) j (eqb-true j i e)
   own-verdict (call.report j channel) e space = on-line (λ l. relayChannelTests l channel) j (eqb-true j i e)
@@ -199,5 +199,5 @@ module _ {b c : Book} {store kept : List ℕ} {i : ℕ} (p : OpenAt b store i) (
                 ∙ sym (part-where k c kept out i (resultOf k c kept out .store) ∙ ap (partOf c i) (f .store) ∙ own-part q k out (ap (λ (l : Line). verdict (ownTests k l (length out))) (sym line) ∙ v));
           }
       go (Refuse r) v =
-          rw (did-refused k b store out (in-parts k b (length store) (length out) ∙ here ∙ v), did-refused k c kept out (in-parts k c (length kept) (length out) ∙ there ∙ v))
+          rw (did-refused k b store out (in-stages k b (length store) (length out) ∙ here ∙ v), did-refused k c kept out (in-stages k c (length kept) (length out) ∙ there ∙ v))
           (record { answer = refl; out = refl; line = line; part = part })

@@ -30,10 +30,10 @@ use Rattle.book.specs.declared.Book.{Book}
 use Rattle.book.proofs.OneOwner.{whose-at, whose-found, one-owner}
 use Rattle.calls.specs.Call.{Call}
 use Rattle.calls.specs.Call as call
-use Rattle.calls.specs.Order.{lineFor, packetLine, lineAt}
-use Rattle.calls.specs.Parts.{tests}
+use Rattle.calls.specs.Order.{lineFor, packetLine, ownerLine}
+use Rattle.calls.specs.Stages.{tests}
 use Rattle.calls.specs.Result.{CallResult, resultOf, effect}
-use Rattle.calls.proofs.OrderParts.{in-parts}
+use Rattle.calls.proofs.OrderStages.{in-stages}
 use Rattle.calls.proofs.Results.{did-refused}
 use Rattle.incoming.proofs.Passing.{addressed}
 use Rattle.laws.specs.LineCalls.{forLine}
@@ -54,7 +54,7 @@ stays-unless k b store out shaped i other = go (verdict (tests k b (length store
     go : (v : Verdict) → verdict (tests k b (length store) (length out)) ≡ v → Stays i b store (resultOf k b store out)
     go Pass e =
         record { line = others-stay k b store out i (other e); part = part-where k b store out i (resultOf k b store out .store) ∙ parts-stay k b store out shaped i (other e) }
-    go (Refuse r) e = rw (did-refused k b store out (in-parts k b (length store) (length out) ∙ e)) (record { line = refl; part = refl })
+    go (Refuse r) e = rw (did-refused k b store out (in-stages k b (length store) (length out) ∙ e)) (record { line = refl; part = refl })
 
 -- A line that has the identifier, if it is open.
 module _ (b : Book) (i identifier : ℕ) (has : isOpen (lineOf b i) ≡ true → lineOf b i .identifier ≡ identifier) where
@@ -68,7 +68,7 @@ module _ (b : Book) (i identifier : ℕ) (has : isOpen (lineOf b i) ≡ true →
   not-for (call.sending j channel rank) n space e f q = eqb-false j i f q
   not-for (call.empty j channel) n space e f q = eqb-false j i f q
   not-for (call.arrival s) n space e f q =
-      let found = whose-at b (headAt s .identifier) (lineAt (packetLine b s)) (addressed b n s e .owner) in
+      let found = whose-at b (headAt s .identifier) (ownerLine (packetLine b s)) (addressed b n s e .owner) in
       let own = subst (λ (j : ℕ). (isOpen (lineOf b j) ≡ true) × (lineOf b j .identifier ≡ headAt s .identifier)) q (found .1, found .2) in
       eqb-false _ _ f (sym (own .1) ∙ has (own .0))
   not-for (call.handOut j channel) n space e f q = eqb-false j i f q
@@ -118,13 +118,13 @@ identifier-stays {b} {store} {i} o k out still =
         let d = leaves-at k b store out (line-for o k e) (own-verdict o k e (length out) ∙ v) (o .shaped) in
         ap (λ (l : Line). l .identifier) (d .line)
         ∙ effect-identifier k i (lineOf b i) _ store out (opens-none k (lineOf b i) (length out) v) (ap isOpen (sym (d .line)) ∙ still)
-    go e (Refuse r) v = ap (λ (d : CallResult). lineOf (d .book) i .identifier) (did-refused k b store out (in-parts k b (length store) (length out) ∙ own-verdict o k e (length out) ∙ v))
+    go e (Refuse r) v = ap (λ (d : CallResult). lineOf (d .book) i .identifier) (did-refused k b store out (in-stages k b (length store) (length out) ∙ own-verdict o k e (length out) ∙ v))
 
 -- While line i is open: a packet that has its identifier, whatever the book.
 module _ (b : Book) (shaped : BookShaped b) (i : ℕ) (small : i < 4) (opened : isOpen (lineOf b i) ≡ true) (s : List ℕ) (mine : headAt s .identifier ≡ lineOf b i .identifier) (store out : List ℕ) where
   arrives : verdict (tests (call.arrival s) b (length store) (length out)) ≡ Pass → lineFor (call.arrival s) b ≡ i
   unfolding tests lineFor
-  arrives pass = ap lineAt (ap (ownerOf b) mine ∙ whose-found b (addressed b (length store) s pass .book) shaped i small opened)
+  arrives pass = ap ownerLine (ap (ownerOf b) mine ∙ whose-found b (addressed b (length store) s pass .book) shaped i small opened)
 
   -- THE PROMISE: the packet can reach that line alone. Every other line, and its part of the store, is as it was,
   pub packet-reaches-one : (j : ℕ) → (i ≡ j → ⊥) → Stays j b store (resultOf (call.arrival s) b store out)

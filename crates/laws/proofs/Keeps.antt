@@ -48,10 +48,10 @@ use Rattle.book.proofs.Facts.{line-fits}
 use Rattle.book.proofs.Keeps.{with-line-keeps, opened-keeps, closed-keeps, with-line-shaped, closed-shaped-book}
 use Rattle.calls.specs.Call.{Call}
 use Rattle.calls.specs.Call as call
-use Rattle.calls.specs.Order.{order, lineFor, packetLine, lineAt}
-use Rattle.calls.specs.Parts.{tests, openTests, closeTests, modeTests}
+use Rattle.calls.specs.Order.{order, lineFor, packetLine, ownerLine}
+use Rattle.calls.specs.Stages.{tests, openTests, closeTests, modeTests}
 use Rattle.calls.proofs.FirstTests.{line-passed, both-passed}
-use Rattle.calls.proofs.OrderParts.{in-parts}
+use Rattle.calls.proofs.OrderStages.{in-stages}
 use Rattle.calls.specs.Result.{CallResult, resultOf, acceptedResult, effect}
 use Rattle.incoming.proofs.Passing.{addressed}
 
@@ -122,7 +122,7 @@ module _ (b : Book) (fits : bookFits b ≡ true) (shaped : BookShaped b) where
       let p = line-passed b i (emptyTests l channel (length out)) e in
       put-keeps i (wroteLine l) (wrote-line-same l .opening) (empty-keeps l channel (length out) (p .0 .line) (shaped .each i) (p .1))
   done-keeps (call.arrival s) store out e =
-      let i = lineAt (packetLine b s) in
+      let i = ownerLine (packetLine b s) in
       let l = lineOf b i in
       let p = addressed b (length store) s e in
       put-keeps i (arrivedLine l s) (arrived-stays l s .opening) (arrived-line-keeps l s (p .fits) (p .opened) (shaped .each i) (p .line))
@@ -137,7 +137,7 @@ pub every-call-keeps : (c : Call) (b : Book) (store out : List ℕ) → bookFits
     → (bookFits (resultOf c b store out .book) ≡ true) × BookShaped (resultOf c b store out .book)
 unfolding resultOf
 every-call-keeps c b store out fits shaped =
-    settled-by (λ (d : CallResult). Passes (d .book)) (verdict (order c b (length store) (length out))) (λ r e. (fits, shaped)) (λ e. done-keeps b fits shaped c store out (sym (in-parts c b (length store) (length out)) ∙ e))
+    settled-by (λ (d : CallResult). Passes (d .book)) (verdict (order c b (length store) (length out))) (λ r e. (fits, shaped)) (λ e. done-keeps b fits shaped c store out (sym (in-stages c b (length store) (length out)) ∙ e))
 
 -- and the store that is lent stays as long as it was
 effect-length : (c : Call) (i : ℕ) (l : Line) (start : ℕ) (store out : List ℕ) → length (effect c i l start store out .store) ≡ length store

@@ -36,10 +36,10 @@ use Rattle.book.proofs.OneOwner.{somebody, open-somebody, whose-at, never-resti
 use Rattle.book.proofs.OtherLines.{closed-same, closed-other}
 use Rattle.calls.specs.Call as call
 use Rattle.calls.specs.Order.{lineFor, packetLine}
-use Rattle.calls.specs.Parts.{tests, fitBook, lineNumber, openTests, closeTests, addressTests, arrivalTests}
+use Rattle.calls.specs.Stages.{tests, fitBook, lineNumber, openTests, closeTests, addressTests, arrivalTests}
 use Rattle.calls.specs.Result.{resultWith, resultOf}
 use Rattle.calls.proofs.FirstTests.{line-passed}
-use Rattle.calls.proofs.OrderParts.{in-parts}
+use Rattle.calls.proofs.OrderStages.{in-stages}
 use Rattle.calls.proofs.Results.{did-refused}
 use Rattle.laws.specs.Reached.{Turn, turned, reach, closes, closings}
 use Rattle.laws.proofs.Keeps.{Passes, every-call-keeps}
@@ -69,7 +69,7 @@ module _ (b : Book) (k : Passes b) (x : ℕ) (rest : member x (restingOf b) ≡ 
       let h = passed (headTests s) plain in
       let none : packetLine b s ≡ Nobody = ap (ownerOf b) e ∙ nobody in
       let v : verdict (tests (call.arrival s) b (length store) (length out)) ≡ Refuse NOLINE = rw (k .0, le-leb _ _ long, h .0, h .1 .0, none) in
-      did-refused (call.arrival s) b store out (in-parts (call.arrival s) b (length store) (length out) ∙ v)
+      did-refused (call.arrival s) b store out (in-stages (call.arrival s) b (length store) (length out) ∙ v)
 
   -- and no line can be opened with it
   resting-taken : (j : ℕ) (s : Settings) (time : ℕ) (store out : List ℕ) → s .identifier ≡ x → resultOf (call.opening j s time) b store out .answer .number ≡ 0 → ⊥

@@ -24,14 +24,14 @@ use Rattle.book.proofs.Facts.{book-ok}
 use Rattle.book.proofs.OneOwner.{whose-at}
 use Rattle.calls.specs.Call.{Call}
 use Rattle.calls.specs.Call as call
-use Rattle.calls.specs.Order.{lineFor, packetLine, lineAt}
-use Rattle.calls.specs.Parts.{tests, openTests, closeTests, modeTests, addressTests}
+use Rattle.calls.specs.Order.{lineFor, packetLine, ownerLine}
+use Rattle.calls.specs.Stages.{tests, openTests, closeTests, modeTests, addressTests}
 use Rattle.calls.proofs.FirstTests.{OnLine, line-passed, both-passed}
 use Rattle.incoming.proofs.Passing.{address-owner, addressed}
 
 -- a packet finds its line, which is open, by its identifier
-pub pass-address : (b : Book) (s : List ℕ) → verdict (addressTests b s) ≡ Pass → isOpen (lineOf b (lineAt (packetLine b s))) ≡ true
-pass-address b s e = whose-at b (headAt s .identifier) (lineAt (packetLine b s)) (address-owner b s e) .1
+pub pass-address : (b : Book) (s : List ℕ) → verdict (addressTests b s) ≡ Pass → isOpen (lineOf b (ownerLine (packetLine b s))) ≡ true
+pass-address b s e = whose-at b (headAt s .identifier) (ownerLine (packetLine b s)) (address-owner b s e) .1
 
 -- one of the four, and fits
 pub pass-on : (c : Call) (b : Book) (n space : ℕ) → verdict (tests c b n space) ≡ Pass → BookShaped b → OnLine b (lineFor c b)

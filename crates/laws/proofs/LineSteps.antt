@@ -2,7 +2,7 @@
 -- BOOK's test and the verdicts give; that a contract leaves one outcome does not rest on it.
 -- Assumes nothing.
 use mathlib.Core.Path.{refl, sym, _∙_}
-use Rattle.relay.proofs.line_verdict as relay-line-verdict
+use Rattle.relay.proofs.relay_verdict as relay-line-verdict
 use Rattle.relay.proofs.channel_verdict as relay-channel-verdict
 use Rattle.relay.proofs.may_take as relay-may-take
 use Rattle.relay.proofs.take as relay-take

@@ -24,10 +24,10 @@ use Rattle.book.proofs.OtherLines.{line-other, closed-other}
 use Rattle.book.proofs.Parts.{part-in, part-long, part-kept, past-kept, parts-alike}
 use Rattle.calls.specs.Call.{Call}
 use Rattle.calls.specs.Call as call
-use Rattle.calls.specs.Order.{order, lineFor, packetLine, lineAt}
-use Rattle.calls.specs.Parts.{tests}
+use Rattle.calls.specs.Order.{order, lineFor, packetLine, ownerLine}
+use Rattle.calls.specs.Stages.{tests}
 use Rattle.calls.proofs.FirstTests.{both-passed}
-use Rattle.calls.proofs.OrderParts.{in-parts}
+use Rattle.calls.proofs.OrderStages.{in-stages}
 use Rattle.calls.specs.Result.{CallResult, resultOf, acceptedResult, effect}
 use Rattle.incoming.proofs.Passing.{addressed}
 
@@ -73,7 +73,7 @@ puts (call.taking i channel message) b store out e k =
 puts (call.sending i channel rank) b store out e k = inl refl
 puts (call.empty i channel) b store out e k = inl refl
 puts (call.arrival s) b store out e k =
-    let i = lineAt (packetLine b s) in
+    let i = ownerLine (packetLine b s) in
     let l = lineOf b i in
     let p = addressed b (length store) s e in
     let small : i < 4 = omega (arith, p .number, k .lines) in
@@ -98,7 +98,7 @@ module _ (c : Call) (b : Book) (store out : List ℕ) (k : BookShaped b) where
   -- whatever the answer
   pub store-puts : Puts b (lineFor c b) store after
   unfolding resultOf acceptedResult
-  store-puts = settled-by (λ (d : CallResult). Puts b (lineFor c b) store (d .store)) (verdict (order c b (length store) (length out))) (λ r e. inl refl) (λ e. puts c b store out (sym (in-parts c b (length store) (length out)) ∙ e) k)
+  store-puts = settled-by (λ (d : CallResult). Puts b (lineFor c b) store (d .store)) (verdict (order c b (length store) (length out))) (λ r e. inl refl) (λ e. puts c b store out (sym (in-stages c b (length store) (length out)) ∙ e) k)
 
   -- THE PROMISE: the part of every other line holds what it held.
   pub parts-stay : (j : ℕ) → (lineFor c b ≡ j → ⊥) → partOf b j after ≡ partOf b j store

@@ -25,9 +25,9 @@ use Rattle.book.proofs.OtherLines.{line-same, closed-same}
 use Rattle.calls.specs.Call.{Call}
 use Rattle.calls.specs.Call as call
 use Rattle.calls.specs.Order.{order, lineFor}
-use Rattle.calls.specs.Parts.{tests}
+use Rattle.calls.specs.Stages.{tests}
 use Rattle.calls.specs.Result.{CallResult, Effect, resultOf, acceptedResult, effect}
-use Rattle.calls.proofs.OrderParts.{in-parts}
+use Rattle.calls.proofs.OrderStages.{in-stages}
 use Rattle.calls.proofs.Results.{result-accepted}
 use Rattle.laws.proofs.LineFor.{line-number}
 
@@ -55,11 +55,11 @@ module _ (c : Call) (b : Book) (store out : List ℕ) where
   -- the answer's number is 0 exactly if all tests pass
   pub accepted-passes : resultOf c b store out .answer .number ≡ 0 → its ≡ Pass
   unfolding resultOf
-  accepted-passes = settled-by (λ (d : CallResult). d .answer .number ≡ 0 → its ≡ Pass) (verdict (order c b (length store) (length out))) (λ r e z. absurd (omega (arith, number-some r))) (λ e z. sym (in-parts c b (length store) (length out)) ∙ e)
+  accepted-passes = settled-by (λ (d : CallResult). d .answer .number ≡ 0 → its ≡ Pass) (verdict (order c b (length store) (length out))) (λ r e z. absurd (omega (arith, number-some r))) (λ e z. sym (in-stages c b (length store) (length out)) ∙ e)
 
   module _ (pass : its ≡ Pass) where
     abbrev is-done : resultOf c b store out ≡ acceptedResult c b store out
-    is-done = result-accepted c b store out (in-parts c b (length store) (length out) ∙ pass)
+    is-done = result-accepted c b store out (in-stages c b (length store) (length out) ∙ pass)
 
     pub passes-accepted : resultOf c b store out .answer .number ≡ 0
     unfolding acceptedResult

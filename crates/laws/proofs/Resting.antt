@@ -27,9 +27,9 @@ use Rattle.book.proofs.Closing.{closed-resting}
 use Rattle.calls.specs.Call.{Call}
 use Rattle.calls.specs.Call as call
 use Rattle.calls.specs.Order.{lineFor}
-use Rattle.calls.specs.Parts.{tests}
+use Rattle.calls.specs.Stages.{tests}
 use Rattle.calls.specs.Result.{CallResult, effect}
-use Rattle.calls.proofs.OrderParts.{in-parts}
+use Rattle.calls.proofs.OrderStages.{in-stages}
 use Rattle.calls.proofs.Results.{did-refused}
 use Rattle.laws.specs.Reached.{Turn, turned, reach, isClosing, closes, closings}
 use Rattle.laws.proofs.LineFor.{pass-open}
@@ -142,7 +142,7 @@ module _ (b : Book) (t : Turn) where
       go Pass p =
           let none : isClosing (t .call) ≡ false = neither (isClosing (t .call)) (eq-eqb _ 0 (passes-accepted (t .call) b (t .store) (t .out) p)) e in
           ap restingOf (left p ∙ ap (λ (c : Bool). pick c (closedAt b i) (withLine b i (own (t .call) b (t .store) (t .out) .line))) none)
-      go (Refuse r) p = ap (λ (d : CallResult). restingOf (d .book)) (did-refused (t .call) b (t .store) (t .out) (in-parts (t .call) b (length (t .store)) (length (t .out)) ∙ p))
+      go (Refuse r) p = ap (λ (d : CallResult). restingOf (d .book)) (did-refused (t .call) b (t .store) (t .out) (in-stages (t .call) b (length (t .store)) (length (t .out)) ∙ p))
 
 -- Whatever is called, an identifier rests until sixteen have been closed after it.
 pub rests-on : (ts : List Turn) (b : Book) (x n : ℕ) → RestsBefore x n (restingOf b) → n + closings b ts < 16 → RestsBefore x (n + closings b ts) (restingOf (reach b ts))

@@ -39,10 +39,10 @@ use Rattle.book.proofs.OtherLines.{line-other}
 use Rattle.book.proofs.Unread.{closed-unread, taken-unread, whose-unread}
 use Rattle.calls.specs.Call.{Call}
 use Rattle.calls.specs.Call as call
-use Rattle.calls.specs.Order.{lineFor, packetLine, isSomebody, lineAt}
-use Rattle.calls.specs.Parts.{tests, fitBook, roomy, lineNumber, mustBeOpen, openTests, closeTests, modeTests, addressTests, arrivalTests}
+use Rattle.calls.specs.Order.{lineFor, packetLine, isSomebody, ownerLine}
+use Rattle.calls.specs.Stages.{tests, fitBook, roomy, lineNumber, mustBeOpen, openTests, closeTests, modeTests, addressTests, arrivalTests}
 use Rattle.calls.specs.Result.{CallResult, Effect, resultWith, resultOf, acceptedResult, effect}
-use Rattle.calls.proofs.OrderParts.{in-parts}
+use Rattle.calls.proofs.OrderStages.{in-stages}
 use Rattle.calls.proofs.Results.{result-accepted, did-refused}
 use Rattle.laws.proofs.OwnLine.{accepted-passes}
 use Rattle.laws.proofs.LineFor.{opens, pass-address, pass-open}
@@ -163,14 +163,14 @@ module _ (b : Book) (i : ℕ) (o : lineOf b i .opened ≡ 0) (m : Line) (c : m .
   arrival-same s = go (verdict (addressTests b s)) refl
     where
       here : Line
-      here = lineOf b (lineAt (packetLine b s))
+      here = lineOf b (ownerLine (packetLine b s))
 
       there : Line
-      there = lineOf other (lineAt (packetLine other s))
+      there = lineOf other (ownerLine (packetLine other s))
 
       go : (v : Verdict) → verdict (addressTests b s) ≡ v → verdict (addressTests b s ++ arriveTests here s) ≡ verdict (addressTests other s ++ arriveTests there s)
       go Pass e =
-          let same : here ≡ there = open-same (lineAt (packetLine b s)) (pass-address b s e) ∙ ap (λ (w : Owner). lineOf other (lineAt w)) (finds-same s) in
+          let same : here ≡ there = open-same (ownerLine (packetLine b s)) (pass-address b s e) ∙ ap (λ (w : Owner). lineOf other (ownerLine w)) (finds-same s) in
           λ t. verdict (address-same s t ++ arriveTests (same t) s)
       go (Refuse r) e =
           verdict-stop (addressTests b s) (arriveTests here s) e
@@ -198,7 +198,7 @@ module _ (b : Book) (i : ℕ) (o : lineOf b i .opened ≡ 0) (m : Line) (c : m .
   line-same (call.taking j channel message) = refl
   line-same (call.sending j channel rank) = refl
   line-same (call.empty j channel) = refl
-  line-same (call.arrival s) = ap lineAt (finds-same s)
+  line-same (call.arrival s) = ap ownerLine (finds-same s)
   line-same (call.handOut j channel) = refl
   line-same (call.report j channel) = refl
 
@@ -236,9 +236,9 @@ module _ (b : Book) (i : ℕ) (o : lineOf b i .opened ≡ 0) (m : Line) (c : m .
   did-same k store out = go (verdict (tests k b (length store) (length out))) refl
     where
       go : (v : Verdict) → verdict (tests k b (length store) (length out)) ≡ v → SameDid i (resultOf k b store out) (resultOf k other store out)
-      go Pass e = rw (result-accepted k b store out (in-parts k b (length store) (length out) ∙ e), result-accepted k other store out (in-parts k other (length store) (length out) ∙ sym (verdict-same k (length store) (length out)) ∙ e)) (done-same k store out e)
+      go Pass e = rw (result-accepted k b store out (in-stages k b (length store) (length out) ∙ e), result-accepted k other store out (in-stages k other (length store) (length out) ∙ sym (verdict-same k (length store) (length out)) ∙ e)) (done-same k store out e)
       go (Refuse r) e =
-          rw (did-refused k b store out (in-parts k b (length store) (length out) ∙ e), did-refused k other store out (in-parts k other (length store) (length out) ∙ sym (verdict-same k (length store) (length out)) ∙ e))
+          rw (did-refused k b store out (in-stages k b (length store) (length out) ∙ e), did-refused k other store out (in-stages k other (length store) (length out) ∙ sym (verdict-same k (length store) (length out)) ∙ e))
           (record { answer = refl; store = refl; out = refl; book = sym (put-twice b i m closedLine) })
 
 -- THE PROMISE: whatever stands in a closed line's record, every call gives the same answer and leaves the same, but for that record.
@@ -257,6 +257,6 @@ opening-unread b i l m p q s time store out z =
     let c = call.opening i s time in
     let e = accepted-passes c (withLine b i l) store out z in
     let f = accepted-passes c (withLine b i m) store out (ap (λ (a : Answer). a .number) (sym (closed-record-unread b i l m p q c store out .answer)) ∙ z) in
-    result-accepted c (withLine b i l) store out (in-parts c (withLine b i l) (length store) (length out) ∙ e)
+    result-accepted c (withLine b i l) store out (in-stages c (withLine b i l) (length store) (length out) ∙ e)
     ∙ ap (λ (a : Book). resultWith (accepted []) a store out) (put-twice b i l (openedLine s time) ∙ sym (put-twice b i m (openedLine s time)))
-    ∙ sym (result-accepted c (withLine b i m) store out (in-parts c (withLine b i m) (length store) (length out) ∙ f))
+    ∙ sym (result-accepted c (withLine b i m) store out (in-stages c (withLine b i m) (length store) (length out) ∙ f))

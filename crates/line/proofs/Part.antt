@@ -14,19 +14,19 @@ use Rattle.line.specs.Part.{slotCount, slotSize, wayLength, partLength, 
 use Rattle.line.specs.declared.Line.{Line}
 
 -- Whose a region is: a way's, and a channel's that has slots.
-pub record Owner : Type 0 where
+pub record Side : Type 0 where
   pub way : Way
   pub channel : ℕ
 
-pub record Served (x : Owner) : Type 0 where
+pub record Served (x : Side) : Type 0 where
   pub low : 1 ≤ x .channel
   pub high : x .channel ≤ 2
 
 module _ (l : Line) where
-  abbrev pub region : Owner → Region
+  abbrev pub region : Side → Region
   region x = regionOf l (x .way) (x .channel)
 
-  abbrev pub slots : Owner → ℕ
+  abbrev pub slots : Side → ℕ
   slots x = slotCount l (x .way) (x .channel)
 
   -- a slot holds the largest message
@@ -50,12 +50,12 @@ module _ (l : Line) where
   ways-apart : wayEnd Sending ≤ wayStart l Receiving
   ways-apart = omega arith
 
-  abbrev Lies : Owner → Type 0
+  abbrev Lies : Side → Type 0
   Lies x =
       ((x .channel ≡ 1) × (region x .start ≡ wayStart l (x .way)) × (slotAt (region x) (slots x) ≡ middle (x .way)))
       ⊎ ((x .channel ≡ 2) × (region x .start ≡ middle (x .way)) × (slotAt (region x) (slots x) ≡ wayEnd (x .way)))
 
-  lies : (x : Owner) → Served x → Lies x
+  lies : (x : Side) → Served x → Lies x
   lies x s = go (x .channel) (s .low) (s .high)
     where
       go : (c : ℕ) → 1 ≤ c → c ≤ 2 → Lies (record { way = x .way; channel = c })
@@ -64,22 +64,22 @@ module _ (l : Line) where
       go (suc (suc zero)) a b = inr (refl, refl, second-end (wayStart l (x .way)) (slotCount l (x .way) 1) (slotCount l (x .way) 2) (slotSize l (x .way)))
       go (suc (suc (suc c))) a b = absurd (omega arith)
 
-  starts : (x : Owner) → Served x → wayStart l (x .way) ≤ region x .start
+  starts : (x : Side) → Served x → wayStart l (x .way) ≤ region x .start
   starts x s = ⊎-elim (λ e. omega (arith, e .1)) (λ e. omega (arith, e .1)) (lies x s)
 
-  ends : (x : Owner) → Served x → slotAt (region x) (slots x) ≤ wayEnd (x .way)
+  ends : (x : Side) → Served x → slotAt (region x) (slots x) ≤ wayEnd (x .way)
   ends x s = ⊎-elim (λ e. omega (arith, e .2, middle-in (x .way))) (λ e. omega (arith, e .2)) (lies x s)
 
   -- a region lies in the part
-  pub region-end : (x : Owner) → Served x → slotAt (region x) (slots x) ≤ partLength l
+  pub region-end : (x : Side) → Served x → slotAt (region x) (slots x) ≤ partLength l
   region-end x s = omega (arith, ends x s, way-in (x .way))
 
   -- so the slot of a place is in any part that is long enough
-  pub slot-there : (x : Owner) → Served x → (p n : ℕ) → p < slots x → partLength l ≤ n → SlotIn (region x) p n
+  pub slot-there : (x : Side) → Served x → (p n : ℕ) → p < slots x → partLength l ≤ n → SlotIn (region x) p n
   slot-there x s p n a r = record { inside = omega (arith, slot-next (region x) p (slots x) a, region-end x s) }
 
   -- regions of two ways or of two channels
-  abbrev Clear : Owner → Owner → Type 0
+  abbrev Clear : Side → Side → Type 0
   Clear x y = Before (region x) (slots x) (region y) ⊎ Before (region y) (slots y) (region x)
 
   -- of one way, where the channels differ
@@ -91,11 +91,11 @@ module _ (l : Line) where
       (lies (record { way = way; channel = c }) s)
 
   both-ways : (v w : Way) (c d : ℕ) → Served (record { way = v; channel = c }) → Served (record { way = w; channel = d })
-      → _≢_ {A = Owner} (record { way = v; channel = c }) (record { way = w; channel = d }) → Clear (record { way = v; channel = c }) (record { way = w; channel = d })
+      → _≢_ {A = Side} (record { way = v; channel = c }) (record { way = w; channel = d }) → Clear (record { way = v; channel = c }) (record { way = w; channel = d })
   both-ways Sending Sending c d s t n = channels-apart Sending c d s t (λ e. n (λ i. record { way = Sending; channel = e i }))
   both-ways Sending Receiving c d s t n = inl (omega (arith, ends _ s, starts _ t, ways-apart))
   both-ways Receiving Sending c d s t n = inr (omega (arith, ends _ t, starts _ s, ways-apart))
   both-ways Receiving Receiving c d s t n = channels-apart Receiving c d s t (λ e. n (λ i. record { way = Receiving; channel = e i }))
 
-  pub regions-apart : (x y : Owner) → Served x → Served y → x ≢ y → Clear x y
+  pub regions-apart : (x y : Side) → Served x → Served y → x ≢ y → Clear x y
   regions-apart x y = both-ways (x .way) (y .way) (x .channel) (y .channel)

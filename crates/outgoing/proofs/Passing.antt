@@ -18,7 +18,7 @@ use Rattle.book.specs.Parts.{storeLength}
 use Rattle.book.specs.declared.Book.{Book}
 use Rattle.calls.specs.Order.{sendOrder}
 use Rattle.calls.proofs.FirstTests.{OnLine, asked-both}
-use Rattle.calls.proofs.OrderParts.{send-parts}
+use Rattle.calls.proofs.OrderStages.{send-stages}
 
 abbrev whySend : SendVerdict → Verdict
 whySend (may.Message h) = Pass
@@ -48,7 +48,7 @@ module _ (b : Book) (n i channel rank space : ℕ) where
       send-is = ap (heldOr its) (sym p ∙ e ∙ ap (λ (v : Verdict). settle {A = SendVerdict} v may.Refused (may.Message its)) send-passes)
 
       pub send-on : OnLine b i × (storeLength b ≤ n) × (verdict (sendTests (lineOf b i) channel rank space) ≡ Pass)
-      send-on = asked-both n (send-parts b n i channel rank space) refl send-passes
+      send-on = asked-both n (send-stages b n i channel rank space) refl send-passes
 
       pub sendable : Sendable (lineOf b i) channel space h
       unfolding sendVerdict

@@ -20,7 +20,7 @@ use Rattle.places.specs.declared.Place.the-variants.{At}
 use Rattle.places.proofs.Ranks.{rank-found, rank-of}
 use Rattle.channel.specs.Channel.{largest, windowOf, cap}
 use Rattle.channel.specs.Distance.{placeOf}
-use Rattle.channel.specs.Sizes.{sizeFits}
+use Rattle.channel.specs.Sizes.{messageFits}
 use Rattle.receiving.specs.Receiving.{nextSize}
 use Rattle.sending.specs.Sending.{heldCount, heldAt, heldOf, takeTests}
 use Rattle.receiving.specs.declared.Receiving.{Receiving}
@@ -46,7 +46,7 @@ use Rattle.writing.proofs.Sends.{send-may, may-passed, may-sendable, send-size}
 use Rattle.channel.proofs.Windows.{window-narrow}
 use Rattle.book.proofs.Facts.{line-fits}
 use Rattle.calls.specs.Call as call
-use Rattle.calls.specs.Parts.{tests, fitBook, roomy, lineNumber}
+use Rattle.calls.specs.Stages.{tests, fitBook, roomy, lineNumber}
 use Rattle.promise.specs.Past.{Past}
 use Rattle.promise.specs.Run.{Gateway, lineAt, partIn}
 use Rattle.promise.specs.Ends.{slotsOf}
@@ -102,8 +102,8 @@ module _ (c : ℕ) (v : reliable c ≡ true) (space : ℕ) (roomy : largest ≤ 
       let k = gets-ok (j .yours .sides) c in
       let below : r .next < cap = omega (arith, sends-ok (j .mine .sides) c .capped, next-below j c v full) in
       let origin : placeOf (r .origin) 0 w ≡ r .origin = pick-lt (λ (p : ℕ). p ≡ r .origin) (r .origin + 0) w (λ l. add-zero (r .origin)) (λ l. absurd (omega (arith, k .placed))) in
-      let sized : sizeFits largest (getD (r .sizes) (placeOf (r .origin) 0 w) 0) ≡ true = receiving-sized w largest r (j .yours .sides .receiving c) 0 (omega (arith, k .placed)) there in
-      let fits : sizeFits largest (nextSize r) ≡ true = rw origin at sized in
+      let sized : messageFits largest (getD (r .sizes) (placeOf (r .origin) 0 w) 0) ≡ true = receiving-sized w largest r (j .yours .sides .receiving c) 0 (omega (arith, k .placed)) there in
+      let fits : messageFits largest (nextSize r) ≡ true = rw origin at sized in
       let small : nextSize r ≤ largest = leb-true _ _ (both-true (ltb 0 (nextSize r)) (leb (nextSize r) largest) fits .1) in
       passes (handCallTests (f .line) c space) (opened, (eq-eqb _ _ inside, (v, (lt-ltb _ _ below, (there, (le-leb (nextSize r) space (omega arith), tt))))))
 
@@ -134,8 +134,8 @@ module _ {i identifier kind : ℕ} {g : Gateway} {p : Past} (s : Sound i identif
     unfolding tests takeCallTests
     taking-passes m some small under near =
         let l = lineAt g i in
-        let sized : sizeFits largest (length m) ≡ true = rw (lt-ltb 0 (length m) some, le-leb (length m) largest small) in
-        let rest = must (sizeFits largest (length m)) SIZE ∷ takeTests (windowOf channel) (sendingOf l channel) in
+        let sized : messageFits largest (length m) ≡ true = rw (lt-ltb 0 (length m) some, le-leb (length m) largest small) in
+        let rest = must (messageFits largest (length m)) SIZE ∷ takeTests (windowOf channel) (sendingOf l channel) in
         lent (takeCallTests l channel (length m))
         (verdict-on (relayChannelTests l channel) rest (relay-asked l (own .opened) (a .1) channel v) ∙ passes rest (sized, (lt-ltb _ _ under, (lt-ltb _ _ near, tt))))
 

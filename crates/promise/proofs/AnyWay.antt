@@ -19,7 +19,7 @@ use Rattle.book.specs.Parts.{storeLength}
 use Rattle.calls.specs.Call as call
 use Rattle.calls.specs.Result.{resultOf}
 use Rattle.promise.specs.Past.{Mark, Packet, Past, justOpened, tookPast, wrotePast, heardPast}
-use Rattle.promise.specs.Run.{Gateway, bound, Each, none, also, sentPacket, took, sent, heard, calls, stay, here, there}
+use Rattle.promise.specs.Run.{Gateway, bound, Each, none, also, notedHeld, took, sent, heard, calls, stay, here, there}
 use Rattle.promise.specs.Promise.{sendsBy, receivesBy, InRelay, AllCame}
 use Rattle.promise.specs.Ours.{Recent, Honest, does, after, Run}
 use Rattle.promise.specs.Demand3.{Served}
@@ -118,7 +118,7 @@ module _ (i j identifier kind c : ℕ) (v : reliable c ≡ true) {g₀ h : Gatew
         let s = serves .sends c v (r .0) (r .1) roomy (lit≤ tt) in
         record {
           g = after (a .g) d roomy;
-          p = wrotePast (a .p) (sentPacket (a .g) (a .p) i c (r .0) (does (a .g) d roomy));
+          p = wrotePast (a .p) (notedHeld (a .g) (a .p) i c (r .0) (does (a .g) d roomy));
           run = run-on (a .run) (here stay (calls (a .mine .0) d roomy (s .opened) (λ _. s .inside) (sent c (r .0) (s .accepted))));
           mine = (a .mine .0, s .inside);
           taken = a .taken;

@@ -13,11 +13,11 @@ use Rattle.book.specs.Book.{lineOf, withLine}
 use Rattle.book.specs.Parts.{partStart}
 use Rattle.book.specs.Shape.{BookShaped}
 use Rattle.book.specs.declared.Book.{Book}
-use Rattle.calls.proofs.OrderParts.{in-parts}
+use Rattle.calls.proofs.OrderStages.{in-stages}
 use Rattle.calls.proofs.Results.{result-accepted}
 use Rattle.calls.specs.Call.{Call}
 use Rattle.calls.specs.Order.{lineFor}
-use Rattle.calls.specs.Parts.{tests}
+use Rattle.calls.specs.Stages.{tests}
 use Rattle.calls.specs.Result.{acceptedResult, effect, resultWith}
 use Rattle.ground.proofs.Either.{by-test}
 use Rattle.ground.specs.Answer.{accepted}
@@ -41,7 +41,7 @@ module _ (g : Gateway) (shaped : BookShaped (g .book)) (s out : List ℕ) where
   pub let-in : May g c out → does g c out ≡ letIn g at s out
   unfolding acceptedResult effect lineFor tests
   let-in may =
-      let p = addressed (g .book) (length (g .store)) s (sym (in-parts c (g .book) (length (g .store)) (length out)) ∙ may) in
+      let p = addressed (g .book) (length (g .store)) s (sym (in-stages c (g .book) (length (g .store)) (length out)) ∙ may) in
       let small : at < 4 = omega (arith, p .number, shaped .lines) in
       let l = lineAt g at in
       result-accepted c (g .book) (g .store) out may

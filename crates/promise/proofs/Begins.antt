@@ -27,7 +27,7 @@ use Rattle.book.proofs.RestingTurns.{getD-alike}
 use Rattle.calls.specs.Call.{Call}
 use Rattle.calls.specs.Call as call
 use Rattle.calls.specs.Order.{lineFor}
-use Rattle.calls.specs.Parts.{tests, fitBook, lineNumber, openTests, modeTests}
+use Rattle.calls.specs.Stages.{tests, fitBook, lineNumber, openTests, modeTests}
 use Rattle.calls.specs.Result.{resultOf, effect}
 use Rattle.promise.specs.Past.{nothingYet, justOpened}
 use Rattle.promise.specs.Run.{Gateway, freshWith, lineAt}

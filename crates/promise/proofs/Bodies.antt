@@ -35,7 +35,7 @@ use Rattle.line.specs.declared.Line.{Line}
 use Rattle.book.proofs.Facts.{line-fits}
 use Rattle.calls.specs.Call as call
 use Rattle.calls.specs.Order.{lineFor}
-use Rattle.calls.specs.Parts.{tests, fitBook, lineNumber, closeTests}
+use Rattle.calls.specs.Stages.{tests, fitBook, lineNumber, closeTests}
 use Rattle.calls.specs.Result.{effect, slipOf}
 use Rattle.gateway.proofs.Slips.{slip-passes}
 use Rattle.promise.specs.Build.{leftBy, ourBodies}

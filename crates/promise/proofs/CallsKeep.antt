@@ -29,11 +29,11 @@ use Rattle.writing.proofs.Keeps.{wrote-line-same}
 use Rattle.calls.specs.Call.{Call}
 use Rattle.calls.specs.Call as call
 use Rattle.calls.specs.Order.{lineFor}
-use Rattle.calls.specs.Parts.{tests, fitBook, roomy, lineNumber}
+use Rattle.calls.specs.Stages.{tests, fitBook, roomy, lineNumber}
 use Rattle.calls.specs.Result.{effect}
 use Rattle.flow.specs.Flow.{Message}
 use Rattle.promise.specs.Past.{Mark, Past, tookPast, handedPast, wrotePast}
-use Rattle.promise.specs.Run.{Gateway, given, lineAt, partIn, Relays, rankedMark, baseMark, sentPacket, emptyPacket}
+use Rattle.promise.specs.Run.{Gateway, given, lineAt, partIn, Relays, rankedMark, baseMark, notedHeld, notedEmpty}
 use Rattle.promise.specs.Ours.{does, after}
 use Rattle.promise.proofs.Ends.{End, Joined}
 use Rattle.promise.proofs.SendingAnew.{asked-open, taking-joined}
@@ -129,7 +129,7 @@ module _ {i identifier kind : ℕ} {g : Gateway} {p : Past} (s : Sound i identif
   sent-given channel rank e = octets-given s (call.sending i channel rank) out refl e (heldPacket (lineAt g i) channel (heldIn (ranked (lineAt g i) channel rank)) (partIn g i)) refl refl
 
   pub sent-kept : (channel rank : ℕ) → Passes g (call.sending i channel rank) out
-      → LeftIn i identifier kind f (after g (call.sending i channel rank) out) (wrotePast p (sentPacket g p i channel rank (does g (call.sending i channel rank) out)))
+      → LeftIn i identifier kind f (after g (call.sending i channel rank) out) (wrotePast p (notedHeld g p i channel rank (does g (call.sending i channel rank) out)))
   unfolding lineFor effect
   sent-kept channel rank e =
       let c = call.sending i channel rank in
@@ -146,7 +146,7 @@ module _ {i identifier kind : ℕ} {g : Gateway} {p : Past} (s : Sound i identif
   empty-given channel e = octets-given s (call.empty i channel) out refl e (written.emptyPacket (lineAt g i) channel) refl refl
 
   pub wrote-kept : (channel : ℕ) → Passes g (call.empty i channel) out
-      → LeftIn i identifier kind f (after g (call.empty i channel) out) (wrotePast p (emptyPacket g p i channel (does g (call.empty i channel) out)))
+      → LeftIn i identifier kind f (after g (call.empty i channel) out) (wrotePast p (notedEmpty g p i channel (does g (call.empty i channel) out)))
   unfolding lineFor effect
   wrote-kept channel e =
       let c = call.empty i channel in

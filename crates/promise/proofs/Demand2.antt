@@ -24,7 +24,7 @@ use Rattle.line.specs.declared.Line.{Line}
 use Rattle.book.specs.Book.{lineOf}
 use Rattle.book.proofs.OtherLines.{line-same}
 use Rattle.calls.specs.Call as call
-use Rattle.calls.specs.Parts.{fitBook, lineNumber, mustBeOpen}
+use Rattle.calls.specs.Stages.{fitBook, lineNumber, mustBeOpen}
 use Rattle.calls.specs.Result.{CallResult}
 use Rattle.mode.proofs.Refusing.{settles}
 use Rattle.calls.proofs.Results.{moved-did}

@@ -12,7 +12,7 @@ use Rattle.writing.specs.Send.{longestPacket}
 use Rattle.calls.specs.Call.{Call}
 use Rattle.calls.specs.Call as call
 use Rattle.promise.specs.Past.{Mark, Packet, Past, wrotePast, heardPast}
-use Rattle.promise.specs.Run.{Gateway, Each, emptyPacket, wrote, heard, here, there}
+use Rattle.promise.specs.Run.{Gateway, Each, notedEmpty, wrote, heard, here, there}
 use Rattle.promise.specs.Promise.{InRelay}
 use Rattle.promise.specs.Ours.{Recent, Honest, does, after, Adds, Goes}
 use Rattle.promise.proofs.AnyBuild.{turned-goes}
@@ -99,10 +99,10 @@ module _ {i j identifier kind : ℕ} {g₀ h₀ : Gateway} {p₀ q₀ : Past} wh
         let pass = empties channel c in
         record {
           by = call.empty i channel;
-          packet = emptyPacket (x .here) (x .mine) i channel (does (x .here) (call.empty i channel) roomy);
+          packet = notedEmpty (x .here) (x .mine) i channel (does (x .here) (call.empty i channel) roomy);
           adds = wrote channel (call-accepted (x .here) (call.empty i channel) roomy pass);
           left = wrote-kept (x .pair .mine) (x .relays-here .0) (x .pair .joined) roomy channel pass;
-          stays = λ m. came-wrote (x .pair) (x .relays-here) m roomy channel pass (emptyPacket (x .here) (x .mine) i channel (does (x .here) (call.empty i channel) roomy));
+          stays = λ m. came-wrote (x .pair) (x .relays-here) m roomy channel pass (notedEmpty (x .here) (x .mine) i channel (does (x .here) (call.empty i channel) roomy));
         }
 
     -- it is written, and lost

@@ -30,7 +30,7 @@ use Rattle.book.proofs.Facts.{line-fits}
 use Rattle.calls.specs.Call.{Call}
 use Rattle.calls.specs.Call as call
 use Rattle.calls.specs.Order.{lineFor}
-use Rattle.calls.specs.Parts.{fitBook, lineNumber, mustBeOpen}
+use Rattle.calls.specs.Stages.{fitBook, lineNumber, mustBeOpen}
 use Rattle.calls.specs.Result.{CallResult, resultWith, resultOf, effect}
 use Rattle.calls.proofs.Results.{moved-did}
 use Rattle.laws.proofs.Keeps.{every-call-keeps}

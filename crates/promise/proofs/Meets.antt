@@ -33,7 +33,7 @@ use Rattle.book.proofs.Fresh.{fresh-fits}
 use Rattle.book.proofs.RestingTurns.{getD-alike}
 use Rattle.calls.specs.Call as call
 use Rattle.calls.specs.Order.{lineFor}
-use Rattle.calls.specs.Parts.{tests, fitBook, lineNumber, openTests}
+use Rattle.calls.specs.Stages.{tests, fitBook, lineNumber, openTests}
 use Rattle.calls.specs.Result.{effect}
 use Rattle.promise.specs.Past.{Past, nothingYet, justOpened, more}
 use Rattle.promise.specs.Ours.{after, Step, Run}

@@ -12,7 +12,7 @@ use Rattle.book.specs.Book.{lineOf}
 use Rattle.book.specs.Parts.{partStart}
 use Rattle.book.specs.Shape.{BookShaped}
 use Rattle.book.specs.declared.Book.{Book}
-use Rattle.calls.proofs.OrderParts.{in-parts}
+use Rattle.calls.proofs.OrderStages.{in-stages}
 use Rattle.calls.specs.Call.{Call}
 use Rattle.calls.specs.Order.{lineFor}
 use Rattle.calls.specs.Result.{effect}
@@ -67,7 +67,7 @@ module _ (g : Gateway) (shaped : BookShaped (g .book)) where
   unfolding lineFor effect
   opens-in i s time out may =
       let c = call.opening i s time in
-      let pass : Passes g c out = sym (in-parts c (g .book) (length (g .store)) (length out)) ∙ may in
+      let pass : Passes g c out = sym (in-stages c (g .book) (length (g .store)) (length out)) ∙ may in
       (call-accepted g c out pass, ap (λ (l : Line). l .modes) (own-line c (g .book) (g .store) out pass shaped))
 
 -- a closing leaves a closed line

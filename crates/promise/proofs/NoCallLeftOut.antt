@@ -20,12 +20,12 @@ use Rattle.arriving.specs.Arrive.{arriveTests}
 use Rattle.calls.specs.Call.{Call}
 use Rattle.calls.specs.Call as call
 use Rattle.calls.specs.Order.{lineFor}
-use Rattle.calls.specs.Parts.{tests, fitBook, lineNumber, openTests}
+use Rattle.calls.specs.Stages.{tests, fitBook, lineNumber, openTests}
 use Rattle.calls.specs.Result.{effect}
 use Rattle.incoming.proofs.Passing.{addressed}
 use Rattle.promise.specs.Past.{Past, tookPast, handedPast, wrotePast, heardPast}
 use Rattle.promise.specs.Ours.{does, after, Provided, Adds}
-use Rattle.promise.specs.Run.{Gateway, accepts, given, lineAt, Relays, sentPacket, emptyPacket, refused, elsewhere, moded, reported, took, handed, sent, wrote, heard}
+use Rattle.promise.specs.Run.{Gateway, accepts, given, lineAt, Relays, notedHeld, notedEmpty, refused, elsewhere, moded, reported, took, handed, sent, wrote, heard}
 use Rattle.promise.proofs.Phases.{Sound, is-open}
 use Rattle.promise.proofs.OwnLine.{Passes, call-passes, line-left}
 
@@ -59,10 +59,10 @@ module _ {i identifier kind : ℕ} {g : Gateway} {p : Past} (s : Sound i identif
       subst (λ (n : ℕ). accepts (does g (call.taking n channel x) out) ≡ true → Then (call.taking n channel x)) (sym m) (λ a. (tookPast p channel x, took channel x a)) e
   own-adds (call.sending k channel rank) m e still ok =
       subst (λ (n : ℕ). accepts (does g (call.sending n channel rank) out) ≡ true → Then (call.sending n channel rank)) (sym m)
-      (λ a. (wrotePast p (sentPacket g p i channel rank (does g (call.sending i channel rank) out)), sent channel rank a)) e
+      (λ a. (wrotePast p (notedHeld g p i channel rank (does g (call.sending i channel rank) out)), sent channel rank a)) e
   own-adds (call.empty k channel) m e still ok =
       subst (λ (n : ℕ). accepts (does g (call.empty n channel) out) ≡ true → Then (call.empty n channel)) (sym m)
-      (λ a. (wrotePast p (emptyPacket g p i channel (does g (call.empty i channel) out)), wrote channel a)) e
+      (λ a. (wrotePast p (notedEmpty g p i channel (does g (call.empty i channel) out)), wrote channel a)) e
   own-adds (call.arrival x) m e still ok =
       let t = addressed (g .book) (length (g .store)) x (call-passes g (call.arrival x) out e) in
       let r : Relays g i = subst (Relays g) m (arrives-in (lineAt g (lineFor (call.arrival x) (g .book))) x (t .line)) in

@@ -15,7 +15,7 @@ use Rattle.book.specs.Parts.{partStart, partOf, withPart}
 use Rattle.book.proofs.Parts.{part-put, part-long}
 use Rattle.calls.specs.Call.{Call}
 use Rattle.calls.specs.Order.{lineFor}
-use Rattle.calls.specs.Parts.{tests}
+use Rattle.calls.specs.Stages.{tests}
 use Rattle.calls.specs.Result.{effect}
 use Rattle.laws.proofs.Others.{part-where}
 use Rattle.laws.proofs.OwnLine.{accepted-passes, passes-accepted, Leaves, leaves-at}

@@ -45,7 +45,7 @@ use Rattle.store.specs.declared.Region.{Region}
 use Rattle.store.specs.declared.Way.the-variants as way
 use Rattle.store.proofs.Octets.{slot-front}
 use Rattle.relay.specs.RelayTests.{reliable, relayChannelTests}
-use Rattle.relay.proofs.Lines.{channel-span, owner-served}
+use Rattle.relay.proofs.Lines.{channel-span, side-served}
 use Rattle.writing.specs.Write.{acksFor, wroteLine, baseFor, headFor, emptyPacket, emptyTests}
 use Rattle.writing.specs.Send.{ranked, isHeld, heldIn, sendTests, sendVerdict, heldPacket, Sendable}
 use Rattle.writing.specs.declared.SendVerdict.the-variants as may
@@ -205,7 +205,7 @@ module _ {e f : End} (channel rank space : ℕ) (pass : verdict (sendTests (e .l
       let small : getD (s .sizes) place 0 ≤ sendLargest l = leb-true _ _ (both-true (ltb 0 (getD (s .sizes) place 0)) _ (g n near bit) .1) in
       let full = message-full w slots (s .sizes) (maskOf (s .unacked)) (s .origin) (sendLargest l) (k .placed) g (slots-hold l (e .part) (j .mine .long) way.Sending channel v) n near bit in
       let view : sent e channel .held (s .base + n) ≡ octetsIn (e .part) region place (getD (s .sizes) place 0)
-      = m .1 ∙ slot-front (e .part) region w (omega (arith, region-end l (record { way = way.Sending; channel = channel }) (owner-served way.Sending channel v), j .mine .long)) place (getD (s .sizes) place 0) small in
+      = m .1 ∙ slot-front (e .part) region w (omega (arith, region-end l (record { way = way.Sending; channel = channel }) (side-served way.Sending channel v), j .mine .long)) place (getD (s .sizes) place 0) small in
       let there = j .there channel v in
       let whole : Full (sent e channel .held (s .base + n)) = subst Full (message-in w slots (s .sizes) (maskOf (s .unacked)) (s .origin) n bit ∙ sym (m .1)) full in
       record {

@@ -38,7 +38,7 @@ use Rattle.book.proofs.Facts.{line-fits}
 use Rattle.book.proofs.OneOwner.{whose-at}
 use Rattle.calls.specs.Call as call
 use Rattle.calls.specs.Order.{lineFor, packetLine, isSomebody}
-use Rattle.calls.specs.Parts.{tests, fitBook, roomy, lineNumber, addressTests, arrivalTests}
+use Rattle.calls.specs.Stages.{tests, fitBook, roomy, lineNumber, addressTests, arrivalTests}
 use Rattle.calls.specs.Order as order
 use Rattle.calls.specs.Result.{effect}
 use Rattle.laws.proofs.OwnLine.{own-values}
@@ -114,7 +114,7 @@ module _ {g : Gateway} {i : ℕ} (r : Ready g i) (inside : Relays g i) (channel 
 -- "No relay packet is accepted outside modem relay": it is accepted at the line that has its identifier, its type, and is in modem relay
 module _ (g : Gateway) (s out : List ℕ) (taken : accepts (does g (call.arrival s) out) ≡ true) where
   abbrev at : ℕ
-  at = order.lineAt (packetLine (g .book) s)
+  at = order.ownerLine (packetLine (g .book) s)
 
   admitted : verdict (arrivalTests (g .book) s) ≡ Pass
   unfolding tests
@@ -131,7 +131,7 @@ module _ (g : Gateway) (s out : List ℕ) (taken : accepts (does g (call.arrival
       last : List Test
       last = must (isSomebody (packetLine (g .book) s)) NOLINE ∷ []
 
-      go : (w : Owner) → isSomebody w ≡ true → w ≡ At (order.lineAt w)
+      go : (w : Owner) → isSomebody w ≡ true → w ≡ At (order.ownerLine w)
       go (At j) e = refl
       go Nobody e = clash e
 

@@ -10,7 +10,7 @@ use lib.ListN.{length}
 use borrow.Author.Tests.{lt-ltb, le-leb}
 use Rattle.field.specs.Word.{wordOf}
 use Rattle.channel.specs.Channel.{modulus}
-use Rattle.channel.specs.Sizes.{sizeFits}
+use Rattle.channel.specs.Sizes.{messageFits}
 use Rattle.receiving.specs.Receiving.{arrivalOf, arrivalPlace, arrivedAs}
 use Rattle.receiving.specs.declared.Receiving.{Receiving}
 use Rattle.receiving.specs.declared.Arrival.{Arrival}
@@ -25,8 +25,8 @@ use Rattle.owed.specs.Owed.{enters}
 use Rattle.owed.proofs.Steps.{entered-list}
 use Rattle.line.specs.Figures.{receiveWindow, receiveLargest}
 use Rattle.line.specs.Part.{partLength, regionOf}
-use Rattle.line.proofs.Part.{Owner, Served}
-use Rattle.relay.proofs.Lines.{owner-served}
+use Rattle.line.proofs.Part.{Side, Served}
+use Rattle.relay.proofs.Lines.{side-served}
 use Rattle.line.specs.Line.{sendingOf, receivingOf}
 use Rattle.line.specs.declared.Line.{Line}
 use Rattle.line.proofs.Shape.{receiving-long}
@@ -79,7 +79,7 @@ module _ {e f : End} (k : Relaying (e .line)) (j : Joined e f) (channel : ℕ) (
   put-slots There near = refl
   put-slots Old near = refl
 
-  put-others : (a : Arrival) → Near a → (y : Owner) → Served y → _≢_ {A = Owner} (record { way = way.Receiving; channel = channel }) y
+  put-others : (a : Arrival) → Near a → (y : Side) → Served y → _≢_ {A = Side} (record { way = way.Receiving; channel = channel }) y
       → SameSlots l (y .way) (y .channel) (e .part) (put a)
   put-others (Stored d) near y s b = put-apart l (e .part) (j .mine .long) way.Receiving channel v (arrivalPlace w r d) x (place-near l k channel (near d refl)) small y s b
   put-others There near y s b = λ p q. refl
@@ -136,7 +136,7 @@ module _ {e f : End} (k : Relaying (e .line)) (j : Joined e f) (channel : ℕ) (
     storing-joined some =
         let number = n % modulus in
         let few : number < 16384 = omega arith in
-        let fits : sizeFits (receiveLargest l) (length x) ≡ true = rw (lt-ltb 0 (length x) some, le-leb (length x) (receiveLargest l) small) in
+        let fits : messageFits (receiveLargest l) (length x) ≡ true = rw (lt-ltb 0 (length x) some, le-leb (length x) (receiveLargest l) small) in
         let next = arrivedAs w r (a n) (length x) in
         let q = stored-stays l channel number (length x) in
         receiving-joined j channel (storedLine l channel number (length x)) (put (a n)) (e .past .handed) (enter (e .past .owes) (mark channel n)) (mark channel n ∷ e .past .came)
@@ -144,8 +144,8 @@ module _ {e f : End} (k : Relaying (e .line)) (j : Joined e f) (channel : ℕ) (
         (stored-relaying l k (j .mine .shaped) channel number v few (length x) fits .fits, stored-shaped l (j .mine .shaped) channel number (length x))
         long
         (λ c. refl) (λ c u d. receiving-other (owingLine l channel number) channel c v u d next)
-        (λ c u. put-others (a n) (near n) (record { way = way.Sending; channel = c }) (owner-served way.Sending c u) (λ g. way-apart (sym g)))
-        (λ c u d. put-others (a n) (near n) (record { way = way.Receiving; channel = c }) (owner-served way.Receiving c u) (channel-apart d))
+        (λ c u. put-others (a n) (near n) (record { way = way.Sending; channel = c }) (side-served way.Sending c u) (λ g. way-apart (sym g)))
+        (λ c u d. put-others (a n) (near n) (record { way = way.Receiving; channel = c }) (side-served way.Receiving c u) (channel-apart d))
         (λ c d. refl)
         (entered-list (l .owed) (wordOf channel number) ∙ ap (λ (ws : List ℕ). enters ws (wordOf channel number)) (j .mine .owed) ∙ enter-words (e .past .owes) (mark channel n))
         (λ g. (each-enter (mark channel n) has (each-map g (j .mine .owes)), also has (each-map g (j .mine .came))))

@@ -35,7 +35,7 @@ use Rattle.store.specs.declared.Way.the-variants as way
 use Rattle.store.proofs.Octets.{slot-front}
 use Rattle.relay.specs.RelayTests.{reliable}
 use Rattle.relay.specs.HandOut.{handCallTests, handedLine, handedOctets}
-use Rattle.relay.proofs.Lines.{owner-served, hand-asked, hand-side, hand-reliable, hand-size}
+use Rattle.relay.proofs.Lines.{side-served, hand-asked, hand-side, hand-reliable, hand-size}
 use Rattle.relay.proofs.Keeps.{handed-line-same, handed-line-keeps}
 use Rattle.promise.specs.Past.{Mark, more, handedPast}
 use Rattle.promise.specs.Run.{Each, bound}
@@ -118,7 +118,7 @@ module _ {e f : End} (channel space : ℕ) (pass : verdict (handCallTests (e .li
   -- the octets that are handed out are those of message R
   octets : take (nextSize r) (slotsOf l (e .part) way.Receiving channel (r .origin)) ≡ handedOctets l channel (e .part)
   octets =
-      let s = region-end l (record { way = way.Receiving; channel = channel }) (owner-served way.Receiving channel v) in
+      let s = region-end l (record { way = way.Receiving; channel = channel }) (side-served way.Receiving channel v) in
       slot-front (e .part) (regionOf l way.Receiving channel) (slotCount l way.Receiving channel) (omega (arith, s, k .long)) (r .origin) (nextSize r)
       (hand-size l (k .fits) channel space pass)
 

@@ -27,9 +27,9 @@ use Rattle.relay.specs.RelayTests.{reliable, relayChannelTests}
 use Rattle.book.proofs.Facts.{line-fits}
 use Rattle.calls.specs.Call as call
 use Rattle.calls.specs.Order.{lineFor}
-use Rattle.calls.specs.Parts.{tests, fitBook, lineNumber}
+use Rattle.calls.specs.Stages.{tests, fitBook, lineNumber}
 use Rattle.calls.specs.Result.{CallResult, acceptedResult, effect}
-use Rattle.calls.proofs.OrderParts.{in-parts}
+use Rattle.calls.proofs.OrderStages.{in-stages}
 use Rattle.calls.proofs.Results.{result-accepted}
 use Rattle.promise.specs.Build.{ours}
 use Rattle.promise.specs.Run.{Gateway, lineAt, Relays}
@@ -96,7 +96,7 @@ module _ {g : Gateway} {i : ℕ} (r : Ready g i) (inside : Relays g i) (channel 
   -- "A held count made up at will is excluded by the report's rule"
   pub report-exact : (out : List ℕ) → does g (call.report i channel) out .answer ≡ accepted (heldOf view ∷ [])
   unfolding acceptedResult effect lineFor
-  report-exact out = ap (λ (d : CallResult). d .answer) (result-accepted (call.report i channel) (g .book) (g .store) out (in-parts (call.report i channel) (g .book) (length (g .store)) (length out) ∙ report-passes out)) ∙ ap (λ (n : ℕ). accepted (n ∷ [])) held-count
+  report-exact out = ap (λ (d : CallResult). d .answer) (result-accepted (call.report i channel) (g .book) (g .store) out (in-stages (call.report i channel) (g .book) (length (g .store)) (length out) ∙ report-passes out)) ∙ ap (λ (n : ℕ). accepted (n ∷ [])) held-count
 
 pub ours-reports : Reports ours
 ours-reports = record { exact = λ g i r inside channel v out. report-exact r inside channel v out }

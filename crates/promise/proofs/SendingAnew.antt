@@ -23,7 +23,7 @@ use Rattle.flow.proofs.OneWay.{took-flow}
 use Rattle.line.specs.Fit.{lineFits}
 use Rattle.line.specs.Figures.{sendWindow, sendLargest}
 use Rattle.line.specs.Part.{partLength}
-use Rattle.line.proofs.Part.{Owner}
+use Rattle.line.proofs.Part.{Side}
 use Rattle.line.proofs.Same.{with-sending-same}
 use Rattle.line.specs.Line.{isOpen, sendingOf, receivingOf, withSending}
 use Rattle.line.specs.Shape.{Shaped}
@@ -35,7 +35,7 @@ use Rattle.store.specs.declared.Way.{Way}
 use Rattle.store.specs.declared.Way.the-variants as way
 use Rattle.relay.specs.RelayTests.{reliable, relayChannelTests}
 use Rattle.relay.specs.Take.{takeCallTests, tookLine, tookPart}
-use Rattle.relay.proofs.Lines.{owner-served, take-asked, take-reliable, take-fits, take-size, take-window, take-place}
+use Rattle.relay.proofs.Lines.{side-served, take-asked, take-reliable, take-fits, take-size, take-window, take-place}
 use Rattle.relay.proofs.Keeps.{took-line-keeps, took-part-length}
 use Rattle.channel.proofs.Windows.{window-narrow}
 use Rattle.promise.specs.Past.{more, tookPast}
@@ -103,11 +103,11 @@ module _ (taken : ℕ → List Message) (channel : ℕ) (m : Message) where
   more-data c n x d = pick-by (λ (l : List Message). Data l n x) (eqb c channel) (λ _. data-more (taken c) m n x d) (λ _. d)
 
 -- other ways and other channels have regions of their own
-pub way-apart : {c channel : ℕ} → _≢_ {A = Owner} (record { way = way.Sending; channel = channel }) (record { way = way.Receiving; channel = c })
-way-apart e = absurd (let q : way.Sending ≡ way.Receiving = ap (λ (x : Owner). x .way) e in let z : _≡_ {A = ℕ} 0 1 = cc in omega arith)
+pub way-apart : {c channel : ℕ} → _≢_ {A = Side} (record { way = way.Sending; channel = channel }) (record { way = way.Receiving; channel = c })
+way-apart e = absurd (let q : way.Sending ≡ way.Receiving = ap (λ (x : Side). x .way) e in let z : _≡_ {A = ℕ} 0 1 = cc in omega arith)
 
-pub channel-apart : {c channel : ℕ} {w : Way} → c ≢ channel → _≢_ {A = Owner} (record { way = w; channel = channel }) (record { way = w; channel = c })
-channel-apart d e = d (sym (ap (λ (x : Owner). x .channel) e))
+pub channel-apart : {c channel : ℕ} {w : Way} → c ≢ channel → _≢_ {A = Side} (record { way = w; channel = channel }) (record { way = w; channel = c })
+channel-apart d e = d (sym (ap (λ (x : Side). x .channel) e))
 
 -- "A message is taken"
 abbrev pub afterTaking : End → ℕ → Message → End
@@ -135,8 +135,8 @@ taking-joined {e} {f} channel m pass j =
     let kept = put-apart l (e .part) (k .long) way.Sending channel v (nextPlace (sendWindow l channel) (sendingOf l channel)) m near fits in
     sending-joined j channel v (tookOne (sendWindow l channel) (sendingOf l channel) n) (tookPart l channel m (e .part)) (more (e .past .taken) channel m)
     (o .0) (o .1) (took-line-keeps l channel n (k .fits) (k .shaped) pass) (omega (arith, k .long, took-part-length l channel m (e .part)))
-    (λ c r. kept (record { way = way.Receiving; channel = c }) (owner-served way.Receiving c r) way-apart)
-    (λ c r d. kept (record { way = way.Sending; channel = c }) (owner-served way.Sending c r) (channel-apart d))
+    (λ c r. kept (record { way = way.Receiving; channel = c }) (side-served way.Receiving c r) way-apart)
+    (λ c r d. kept (record { way = way.Sending; channel = c }) (side-served way.Sending c r) (channel-apart d))
     (more-data (e .past .taken) channel m) (more-other (e .past .taken) channel m)
     (flow-as refl refl (more-here (e .past .taken) channel m) refl
     (took-flow (sendWindow l channel) bound (wide channel) (sendingOf l channel) (receivingOf (f .line) channel)

@@ -29,7 +29,7 @@ use Rattle.book.proofs.OneOwner.{whose-found}
 use Rattle.calls.specs.Call.{Call}
 use Rattle.calls.specs.Call as call
 use Rattle.calls.specs.Order.{lineFor, isSomebody, packetLine}
-use Rattle.calls.specs.Parts.{tests, fitBook, roomy, addressTests, arrivalTests}
+use Rattle.calls.specs.Stages.{tests, fitBook, roomy, addressTests, arrivalTests}
 use Rattle.calls.specs.Order as order
 use Rattle.calls.specs.Result.{effect}
 use Rattle.laws.proofs.Identifiers.{fresh-passes}
@@ -80,16 +80,16 @@ module _ {within i j identifier kind : ℕ} {g h : Gateway} {p q : Past} (s : So
 
   pub arrives-here : lineFor (call.arrival o) (g .book) ≡ i
   unfolding lineFor
-  arrives-here = ap order.lineAt found
+  arrives-here = ap order.ownerLine found
 
   pub arrival-tests : Passes g (call.arrival o) out
   unfolding tests arrivalTests addressTests
   arrival-tests =
       let b = g .book in
       verdict-on (fitBook b ∷ roomy b (length (g .store)) ∷ []) (arrivalTests b o) (passes (fitBook b ∷ roomy b (length (g .store)) ∷ []) (s .fits, (le-leb _ _ (s .long), tt)))
-      ∙ verdict-on (addressTests b o) (arriveTests (lineOf b (order.lineAt (packetLine b o))) o)
+      ∙ verdict-on (addressTests b o) (arriveTests (lineOf b (order.ownerLine (packetLine b o))) o)
       (verdict-on (headTests o) (must (isSomebody (packetLine b o)) NOLINE ∷ []) (asks .0) ∙ rw found)
-      ∙ ap (λ (x : Owner). verdict (arriveTests (lineOf b (order.lineAt x)) o)) found ∙ asks .1
+      ∙ ap (λ (x : Owner). verdict (arriveTests (lineOf b (order.ownerLine x)) o)) found ∙ asks .1
 
   abbrev pub comes : Call
   comes = call.arrival o

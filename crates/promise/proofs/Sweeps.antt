@@ -20,7 +20,7 @@ use Rattle.relay.specs.RelayTests.{reliable}
 use Rattle.writing.specs.Send.{ranked, heldIn}
 use Rattle.calls.specs.Call as call
 use Rattle.promise.specs.Past.{Past, enterAll}
-use Rattle.promise.specs.Run.{Gateway, lineAt, Each, none, also, rankedMark, baseMark, sentPacket, sent}
+use Rattle.promise.specs.Run.{Gateway, lineAt, Each, none, also, rankedMark, baseMark, notedHeld, sent}
 use Rattle.promise.specs.Promise.{sendsBy}
 use Rattle.promise.specs.Ours.{Recent, does}
 use Rattle.promise.proofs.Lists.{each-at, each-take}
@@ -74,7 +74,7 @@ module _ {i j identifier kind : ℕ} {g₀ h₀ : Gateway} {p₀ q₀ : Past} wh
       abbrev writes : Writes x
       writes =
           let d = call.sending i c (held .0) in
-          let packet = sentPacket (x .here) (x .mine) i c (held .0) (does (x .here) d roomy) in
+          let packet = notedHeld (x .here) (x .mine) i c (held .0) (does (x .here) d roomy) in
           record {
             by = d;
             packet = packet;

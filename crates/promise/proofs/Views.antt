@@ -27,7 +27,7 @@ use Rattle.flow.specs.Flow.{Message}
 use Rattle.flow.specs.View.{Slots, messageAt, messageOf, sends, receives, PutAt, SlotsHold}
 use Rattle.line.specs.Figures.{sendWindow, receiveWindow}
 use Rattle.line.specs.Part.{slotCount, slotSize, partLength, regionOf}
-use Rattle.line.proofs.Part.{Owner, Served, region-end, regions-apart}
+use Rattle.line.proofs.Part.{Side, Served, region-end, regions-apart}
 use Rattle.line.specs.Line.{sendingOf, receivingOf, withSending, withReceiving}
 use Rattle.line.specs.declared.Line.{Line}
 use Rattle.store.specs.Store.{slotAt}
@@ -35,7 +35,7 @@ use Rattle.store.specs.declared.Way.{Way}
 use Rattle.store.specs.declared.Way.the-variants as way
 use Rattle.store.proofs.Octets.{slot-length, slot-put, slot-kept, region-kept}
 use Rattle.relay.specs.RelayTests.{reliable}
-use Rattle.relay.proofs.Lines.{owner-served}
+use Rattle.relay.proofs.Lines.{side-served}
 use Rattle.promise.specs.Ends.{slotsOf, sendsOf, receivesOf}
 
 -- two parts have the same in the slots of a way and a channel
@@ -124,11 +124,11 @@ module _ (l : Line) where
 
 -- A message put into the slot of a place of the window.
 module _ (l : Line) (part : List ℕ) (long : partLength l ≤ length part) (w : Way) (channel : ℕ) (v : reliable channel ≡ true) where
-  abbrev own : Owner
+  abbrev own : Side
   own = record { way = w; channel = channel }
 
   in-part : slotAt (regionOf l w channel) (slotCount l w channel) ≤ length part
-  in-part = omega (arith, region-end l own (owner-served w channel v))
+  in-part = omega (arith, region-end l own (side-served w channel v))
 
   -- each slot holds the largest message
   pub slots-hold : SlotsHold (slotCount l w channel) (slotSize l w) (slotsOf l part w channel)
@@ -147,7 +147,7 @@ module _ (l : Line) (part : List ℕ) (long : partLength l ≤ length part) (w :
         }
 
     -- the slots of the other way and of the other channel stay
-    pub put-apart : (y : Owner) → Served y → own ≢ y → SameSlots l (y .way) (y .channel) part after
+    pub put-apart : (y : Side) → Served y → own ≢ y → SameSlots l (y .way) (y .channel) part after
     put-apart y s d q h =
         region-kept part (regionOf l w channel) (slotCount l w channel) in-part p x near fits (regionOf l (y .way) (y .channel)) (slotCount l (y .way) (y .channel))
-        (regions-apart l own y (owner-served w channel v) s d) q h
+        (regions-apart l own y (side-served w channel v) s d) q h

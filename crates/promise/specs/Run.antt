@@ -55,12 +55,12 @@ abbrev pub baseMark : Gateway → ℕ → ℕ → Mark
 baseMark g i channel = record { channel = channel; number = receivingOf (lineAt g i) channel .next }
 
 -- the packet that writing a held message gave
-abbrev pub sentPacket : Gateway → Past → ℕ → ℕ → ℕ → CallResult → Packet
-sentPacket g p i channel rank d = record { octets = given d; carries = rankedMark g i channel rank ∷ []; names = baseMark g i channel ∷ []; acks = take 3 (p .owes) }
+abbrev pub notedHeld : Gateway → Past → ℕ → ℕ → ℕ → CallResult → Packet
+notedHeld g p i channel rank d = record { octets = given d; carries = rankedMark g i channel rank ∷ []; names = baseMark g i channel ∷ []; acks = take 3 (p .owes) }
 
 -- an empty packet: on channel 0 it names no base
-abbrev pub emptyPacket : Gateway → Past → ℕ → ℕ → CallResult → Packet
-emptyPacket g p i channel d = record { octets = given d; carries = []; names = pick (eqb channel 0) [] (baseMark g i channel ∷ []); acks = take 3 (p .owes) }
+abbrev pub notedEmpty : Gateway → Past → ℕ → ℕ → CallResult → Packet
+notedEmpty g p i channel d = record { octets = given d; carries = []; names = pick (eqb channel 0) [] (baseMark g i channel ∷ []); acks = take 3 (p .owes) }
 
 -- how many messages of its channel were taken after message m, where `taken` are those taken, by channel
 abbrev pub takenAfter : (ℕ → List Message) → Mark → ℕ
@@ -125,8 +125,8 @@ module _ (f : Does) where
       -- the message taken is the call's octets, the one handed out is what was put into the output, a packet is the octets put there
       took : (channel : ℕ) (m : Message) → accepts (does g (call.taking i channel m) out) ≡ true → Adds i g p q out (call.taking i channel m) (tookPast p channel m)
       handed : (channel : ℕ) → accepts (does g (call.handOut i channel) out) ≡ true → Adds i g p q out (call.handOut i channel) (handedPast p channel (given (does g (call.handOut i channel) out)))
-      sent : (channel rank : ℕ) → accepts (does g (call.sending i channel rank) out) ≡ true → Adds i g p q out (call.sending i channel rank) (wrotePast p (sentPacket g p i channel rank (does g (call.sending i channel rank) out)))
-      wrote : (channel : ℕ) → accepts (does g (call.empty i channel) out) ≡ true → Adds i g p q out (call.empty i channel) (wrotePast p (emptyPacket g p i channel (does g (call.empty i channel) out)))
+      sent : (channel rank : ℕ) → accepts (does g (call.sending i channel rank) out) ≡ true → Adds i g p q out (call.sending i channel rank) (wrotePast p (notedHeld g p i channel rank (does g (call.sending i channel rank) out)))
+      wrote : (channel : ℕ) → accepts (does g (call.empty i channel) out) ≡ true → Adds i g p q out (call.empty i channel) (wrotePast p (notedEmpty g p i channel (does g (call.empty i channel) out)))
       -- a packet arrives for the line in modem relay, whatever the answer
       heard : (s : List ℕ) (k : Packet) → lineFor (call.arrival s) (g .book) ≡ i → Relays g i → Honest within p q s k → Adds i g p q out (call.arrival s) (heardPast p k)
 

@@ -32,7 +32,7 @@ use Rattle.calls.specs.Call as call
 use Rattle.calls.specs.Order.{lineFor}
 use Rattle.calls.specs.Result.{resultOf, effect}
 use Rattle.promise.specs.Past.{Mark, Packet, Past, there, renewed, enter, enterAll, handedPast, wrotePast, heardPast}
-use Rattle.promise.specs.Run.{Gateway, does, after, given, lineAt, Each, none, also, rankedMark, baseMark, emptyPacket, handed, wrote, heard}
+use Rattle.promise.specs.Run.{Gateway, does, after, given, lineAt, Each, none, also, rankedMark, baseMark, notedEmpty, handed, wrote, heard}
 use Rattle.promise.specs.Ours.{Recent, Honest}
 use Rattle.promise.specs.Promise.{receivesBy, AllCame}
 use Rattle.promise.specs.Demand3.{Serves}
@@ -180,7 +180,7 @@ module _ {test : ℕ → ℕ → Bool} {k : ℕ} (less : k < 16384) (a : At test
   tells = served t₄ .empties 1 (lit≤ tt) space (lit≤ tt)
 
   abbrev news : Packet
-  news = emptyPacket h₂ q₂ 0 1 (does resultOf h₂ telling space)
+  news = notedEmpty h₂ q₂ 0 1 (does resultOf h₂ telling space)
 
   abbrev h₃ : Gateway
   h₃ = after resultOf h₂ telling space

@@ -23,7 +23,7 @@ use Rattle.packet.specs.Read.{acksAt}
 use Rattle.places.specs.Places.{maskOf, setOf}
 use Rattle.channel.specs.Channel.{windowOf, cap}
 use Rattle.channel.specs.Distance.{dist}
-use Rattle.channel.specs.Sizes.{sizeFits}
+use Rattle.channel.specs.Sizes.{messageFits}
 use Rattle.channel.specs.Sizes as sizes
 use Rattle.sending.specs.Sending.{underWay, tookOne, ackedBy, emptiedSending, takeTests, sendingFits}
 use Rattle.sending.specs.declared.Sending.{Sending}
@@ -55,9 +55,9 @@ use Rattle.book.proofs.RestingTurns.{getD-alike}
 use Rattle.calls.specs.Call.{Call}
 use Rattle.calls.specs.Call as call
 use Rattle.calls.specs.Order.{openOrder, askOrder, order, lineFor}
-use Rattle.calls.specs.Parts.{tests, fitBook, roomy, lineNumber}
+use Rattle.calls.specs.Stages.{tests, fitBook, roomy, lineNumber}
 use Rattle.calls.specs.Result.{CallResult, resultOf, acceptedResult, effect}
-use Rattle.calls.proofs.OrderParts.{in-parts}
+use Rattle.calls.proofs.OrderStages.{in-stages}
 use Rattle.promise.specs.Build.{Does}
 use Rattle.promise.specs.Past.{Past, nothingYet, justOpened}
 use Rattle.promise.specs.Run.{Gateway, bound, Step, before, opens, calls, Goes, stay, here, there}
@@ -137,7 +137,7 @@ take-low : (l : Line) → LowLine l → (channel n : ℕ) → verdict (takeCallT
 unfolding takeCallTests tookOne
 take-low l k channel n e =
     let s = sendingOf l channel in
-    let t = passed (must (sizeFits (sendLargest l) n) SIZE ∷ takeTests (sendWindow l channel) s) (pass-both (relayChannelTests l channel) _ e .1) in
+    let t = passed (must (messageFits (sendLargest l) n) SIZE ∷ takeTests (sendWindow l channel) s) (pass-both (relayChannelTests l channel) _ e .1) in
     let space : underWay s < windowOf channel = ltb-true _ _ (t .1 .1 .0) in
     side-low l k channel (tookOne (sendWindow l channel) s n) (record { base = k channel .base; few = omega (arith, space, k channel .base) })
 
@@ -151,7 +151,7 @@ ours-low c b store out k line =
     (λ e.
     let i = lineFor c b in
     let done = effect c i (lineOf b i) (partStart b i) store out in
-    pick-by LowBook (done .rests) (λ _. put-low b k i closedLine fresh-low) (λ _. put-low b k i (done .line) (line (sym (in-parts c b (length store) (length out)) ∙ e))))
+    pick-by LowBook (done .rests) (λ _. put-low b k i closedLine fresh-low) (λ _. put-low b k i (done .line) (line (sym (in-stages c b (length store) (length out)) ∙ e))))
 
 -- no call of the build moves h, or takes more than a window
 call-low : (c : Call) (b : Book) (store out : List ℕ) → LowBook b → LowBook (f c b store out .book)

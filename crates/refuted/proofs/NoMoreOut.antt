@@ -21,7 +21,7 @@ use Rattle.book.specs.Shape.{BookShaped}
 use Rattle.calls.specs.Call.{Call}
 use Rattle.calls.specs.Call as call
 use Rattle.calls.specs.Order.{lineFor}
-use Rattle.calls.specs.Parts.{tests, fitBook, roomy, lineNumber}
+use Rattle.calls.specs.Stages.{tests, fitBook, roomy, lineNumber}
 use Rattle.calls.specs.Result.{resultOf, effect}
 use Rattle.laws.proofs.Keeps.{every-call-keeps}
 use Rattle.laws.proofs.OwnLine.{own-line}

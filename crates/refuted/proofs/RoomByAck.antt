@@ -42,7 +42,7 @@ use Rattle.calls.specs.Result.{resultOf, acceptedResult, effect}
 use Rattle.promise.specs.Build.{Does}
 use Rattle.promise.specs.Past.{Mark, Packet, Past, justOpened, tookPast, wrotePast, heardPast}
 use Rattle.promise.specs.Past as marks
-use Rattle.promise.specs.Run.{Gateway, bound, does, after, rankedMark, baseMark, sentPacket, emptyPacket, none, also, Recent, Honest, Adds, took, sent, wrote, heard, calls, Run}
+use Rattle.promise.specs.Run.{Gateway, bound, does, after, rankedMark, baseMark, notedHeld, notedEmpty, none, also, Recent, Honest, Adds, took, sent, wrote, heard, calls, Run}
 use Rattle.promise.specs.Promise.{sendsBy, receivesBy, InRelay, reportBy}
 use Rattle.promise.specs.Demand3.{Serves, Served, Demand3}
 use Rattle.promise.proofs.Demand3.{turned-run}
@@ -97,12 +97,12 @@ module _ (d : Demand3 freesOnAck) {g h : Gateway} {p q : Past} (b : Both g p h q
       let s : Serves f g 0 (taking x) [] = served .takes 2 refl (x ∷ []) (lit≤ tt) (lit≤ tt) (omega (arith, S-is, few)) (omega (arith, S-is, room)) [] in
       goes (taking x) [] (b .mine .0) s (took 2 (x ∷ []) (s .accepted))
 
-  sends : (rank : ℕ) → rank < reportBy f g 0 2 → Both (after f g (call.sending 0 2 rank) space) (wrotePast p (sentPacket g p 0 2 rank (does f g (call.sending 0 2 rank) space))) h q
+  sends : (rank : ℕ) → rank < reportBy f g 0 2 → Both (after f g (call.sending 0 2 rank) space) (wrotePast p (notedHeld g p 0 2 rank (does f g (call.sending 0 2 rank) space))) h q
   sends rank l =
       let s : Serves f g 0 (call.sending 0 2 rank) space = served .sends 2 refl rank l space (lit≤ tt) in
       goes (call.sending 0 2 rank) space (b .mine .0) s (sent 2 rank (s .accepted))
 
-  acks : Both (after f g (call.empty 0 0) space) (wrotePast p (emptyPacket g p 0 0 (does f g (call.empty 0 0) space))) h q
+  acks : Both (after f g (call.empty 0 0) space) (wrotePast p (notedEmpty g p 0 0 (does f g (call.empty 0 0) space))) h q
   acks =
       let s : Serves f g 0 (call.empty 0 0) space = served .empties 0 (lit≤ tt) space (lit≤ tt) in
       goes (call.empty 0 0) space (b .mine .0) s (wrote 0 (s .accepted))
@@ -142,7 +142,7 @@ fullPast = tells justOpened eight
 
 -- the first is written, arrives, and its acknowledgement comes back: its slot is free
 abbrev one : Packet
-one = sentPacket full fullPast 0 2 0 (does f full (call.sending 0 2 0) space)
+one = notedHeld full fullPast 0 2 0 (does f full (call.sending 0 2 0) space)
 
 abbrev got : Gateway
 got = after f start (call.arrival (one .octets)) []
@@ -151,7 +151,7 @@ abbrev gotPast : Past
 gotPast = heardPast justOpened one
 
 abbrev ack : Packet
-ack = emptyPacket got gotPast 0 0 (does f got (call.empty 0 0) space)
+ack = notedEmpty got gotPast 0 0 (does f got (call.empty 0 0) space)
 
 abbrev answered : Gateway
 answered = after f got (call.empty 0 0) space
@@ -189,7 +189,7 @@ abbrev overPast : Past
 overPast = tookPast freerPast 2 (9 ∷ [])
 
 abbrev ninth : Packet
-ninth = sentPacket over overPast 0 2 7 (does f over (call.sending 0 2 7) space)
+ninth = notedHeld over overPast 0 2 7 (does f over (call.sending 0 2 7) space)
 
 abbrev lost : Gateway
 lost = after f answered (call.arrival (ninth .octets)) []
@@ -198,7 +198,7 @@ abbrev lostPast : Past
 lostPast = heardPast answeredPast ninth
 
 abbrev late : Packet
-late = emptyPacket lost lostPast 0 0 (does f lost (call.empty 0 0) space)
+late = notedEmpty lost lostPast 0 0 (does f lost (call.empty 0 0) space)
 
 -- its acknowledgement is written there, and here it is dropped
 abbrev told : Gateway

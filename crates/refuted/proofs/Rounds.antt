@@ -27,7 +27,7 @@ use Rattle.calls.specs.Call as call
 use Rattle.calls.specs.Order.{lineFor}
 use Rattle.calls.specs.Result.{resultOf, effect}
 use Rattle.promise.specs.Past.{Mark, Packet, Past, tookPast, wrotePast}
-use Rattle.promise.specs.Run.{Gateway, bound, Run, does, after, lineAt, Each, none, also, rankedMark, baseMark, sentPacket, took, sent}
+use Rattle.promise.specs.Run.{Gateway, bound, Run, does, after, lineAt, Each, none, also, rankedMark, baseMark, notedHeld, took, sent}
 use Rattle.promise.specs.Ours.{Recent, Honest}
 use Rattle.promise.specs.Promise.{sendsBy, reportBy}
 use Rattle.promise.specs.Demand3.{Serves}
@@ -151,7 +151,7 @@ module _ {test : ℕ → ℕ → Bool} {k n : ℕ} (few : n ≤ 16384) (a : Behi
   sends = served t₁ .sends 1 refl (ranked .0) (ranked .1) space (lit≤ tt)
 
   abbrev pub packet : Packet
-  packet = sentPacket g₁ p₁ 0 1 (ranked .0) (does resultOf g₁ sending space)
+  packet = notedHeld g₁ p₁ 0 1 (ranked .0) (does resultOf g₁ sending space)
 
   abbrev pub g₂ : Gateway
   g₂ = after resultOf g₁ sending space

@@ -17,7 +17,7 @@ use Rattle.ground.proofs.Picks.{both-true, pick-lt}
 use Rattle.ground.proofs.Either.{or-cases}
 use Rattle.places.specs.Places.{widest}
 use Rattle.channel.specs.Channel.{cap}
-use Rattle.channel.specs.Sizes.{sizeFits}
+use Rattle.channel.specs.Sizes.{messageFits}
 use Rattle.sending.specs.Sending.{SendingOk, takeTests, underWay, nextPlace}
 use Rattle.channel.proofs.Distances.{place-lt}
 use Rattle.channel.proofs.Windows.{window-narrow}
@@ -74,36 +74,36 @@ place-first : (w origin : ℕ) → origin < w → placeOf origin 0 w ≡ origin
 place-first w origin h = pick-lt (λ (p : ℕ). p ≡ origin) (origin + 0) w (λ l. omega arith) (λ l. absurd (omega arith))
 
 -- so the channel has slots, both ways, and each place of its window has one in the line's part
-pub owner-served : (way : Way) (channel : ℕ) → reliable channel ≡ true → Served (record { way = way; channel = channel })
-owner-served way channel e = let c = channel-span channel e in record { low = c .0; high = c .1 }
+pub side-served : (way : Way) (channel : ℕ) → reliable channel ≡ true → Served (record { way = way; channel = channel })
+side-served way channel e = let c = channel-span channel e in record { low = c .0; high = c .1 }
 
 pub slot-in : (l : Line) (way : Way) (channel p n : ℕ) → reliable channel ≡ true → p < slotCount l way channel → partLength l ≤ n → SlotIn (regionOf l way channel) p n
-slot-in l way channel p n e = slot-there l (record { way = way; channel = channel }) (owner-served way channel e) p n
+slot-in l way channel p n e = slot-there l (record { way = way; channel = channel }) (side-served way channel e) p n
 
 -- all tests before a message is taken pass
 module _ (l : Line) (fits : lineFits l ≡ true) (channel n : ℕ) (pass : verdict (takeCallTests l channel n) ≡ Pass) where
-  parts : (verdict (relayChannelTests l channel) ≡ Pass) × (verdict (must (sizeFits (sendLargest l) n) SIZE ∷ takeTests (sendWindow l channel) (sendingOf l channel)) ≡ Pass)
+  parts : (verdict (relayChannelTests l channel) ≡ Pass) × (verdict (must (messageFits (sendLargest l) n) SIZE ∷ takeTests (sendWindow l channel) (sendingOf l channel)) ≡ Pass)
   unfolding takeCallTests
-  parts = pass-both (relayChannelTests l channel) (must (sizeFits (sendLargest l) n) SIZE ∷ takeTests (sendWindow l channel) (sendingOf l channel)) pass
+  parts = pass-both (relayChannelTests l channel) (must (messageFits (sendLargest l) n) SIZE ∷ takeTests (sendWindow l channel) (sendingOf l channel)) pass
 
   pub take-asked : verdict (relayChannelTests l channel) ≡ Pass
   take-asked = parts .0
 
-  rest : Holds (must (sizeFits (sendLargest l) n) SIZE ∷ takeTests (sendWindow l channel) (sendingOf l channel))
-  rest = passed (must (sizeFits (sendLargest l) n) SIZE ∷ takeTests (sendWindow l channel) (sendingOf l channel)) (parts .1)
+  rest : Holds (must (messageFits (sendLargest l) n) SIZE ∷ takeTests (sendWindow l channel) (sendingOf l channel))
+  rest = passed (must (messageFits (sendLargest l) n) SIZE ∷ takeTests (sendWindow l channel) (sendingOf l channel)) (parts .1)
 
   pub take-reliable : reliable channel ≡ true
   unfolding relayChannelTests
   take-reliable = passed (relayChannelTests l channel) (parts .0) .1 .1 .0
 
-  pub take-fits : sizeFits (sendLargest l) n ≡ true
+  pub take-fits : messageFits (sendLargest l) n ≡ true
   take-fits = rest .0
 
   pub take-size : n ≤ sendLargest l
   take-size = leb-true _ _ (both-true (ltb 0 n) (leb n (sendLargest l)) take-fits .1)
 
   pub take-side : verdict (takeTests (sendWindow l channel) (sendingOf l channel)) ≡ Pass
-  take-side = pass-both (must (sizeFits (sendLargest l) n) SIZE ∷ []) (takeTests (sendWindow l channel) (sendingOf l channel)) (parts .1) .1
+  take-side = pass-both (must (messageFits (sendLargest l) n) SIZE ∷ []) (takeTests (sendWindow l channel) (sendingOf l channel)) (parts .1) .1
 
   pub take-steps : SendingOk (sendWindow l channel) (sendingOf l channel)
   take-steps = sending-steps l fits channel (parts .0)
@@ -157,6 +157,6 @@ module _ (l : Line) (fits : lineFits l ≡ true) (channel space : ℕ) (pass : v
       let k : ReceivingOk (receiveWindow l channel) side = hand-steps in
       let f = receiving-sized (receiveWindow l channel) (receiveLargest l) side (receiving-side l (ok l fits channel (asked-first .0)) (inside l fits channel (asked-first .0)) channel) in
       let first-place : placeOf (side .origin) 0 (receiveWindow l channel) ≡ side .origin = place-first (receiveWindow l channel) (side .origin) (k .placed) in
-      let s : sizeFits (receiveLargest l) (getD (side .sizes) (placeOf (side .origin) 0 (receiveWindow l channel)) 0) ≡ true = f 0 (omega (arith, k .placed)) (passed (handTests side) (then-side .0) .1 .0) in
-      let t : sizeFits (receiveLargest l) (nextSize side) ≡ true = rw first-place at s in
+      let s : messageFits (receiveLargest l) (getD (side .sizes) (placeOf (side .origin) 0 (receiveWindow l channel)) 0) ≡ true = f 0 (omega (arith, k .placed)) (passed (handTests side) (then-side .0) .1 .0) in
+      let t : messageFits (receiveLargest l) (nextSize side) ≡ true = rw first-place at s in
       leb-true _ _ (both-true (ltb 0 (nextSize side)) (leb (nextSize side) (receiveLargest l)) t .1)

@@ -5,7 +5,7 @@ use mathlib.Core.List.{List, _∷_, _++_}
 use lib.Seq.{sets}
 use Rattle.ground.specs.Refusal.{Test, must}
 use Rattle.ground.specs.declared.Refusal.the-variants.{SIZE}
-use Rattle.channel.specs.Sizes.{sizeFits}
+use Rattle.channel.specs.Sizes.{messageFits}
 use Rattle.sending.specs.Sending.{takeTests, nextPlace, tookOne}
 use Rattle.line.specs.Line.{sendingOf, withSending}
 use Rattle.line.specs.Figures.{sendWindow, sendLargest}
@@ -18,7 +18,7 @@ use Rattle.relay.specs.RelayTests.{relayChannelTests}
 
 -- "Message taken: NOLINE, MODE, CHANNEL, SIZE, SPENT, FULL" (RULES 14.3); n is its length
 unfoldable pub takeCallTests : Line → ℕ → ℕ → List Test
-takeCallTests l channel n = relayChannelTests l channel ++ (must (sizeFits (sendLargest l) n) SIZE ∷ takeTests (sendWindow l channel) (sendingOf l channel))
+takeCallTests l channel n = relayChannelTests l channel ++ (must (messageFits (sendLargest l) n) SIZE ∷ takeTests (sendWindow l channel) (sendingOf l channel))
 
 -- the line with message S of the channel taken (RULES 5.1)
 abbrev pub tookLine : Line → ℕ → ℕ → Line

@@ -23,7 +23,7 @@ use mode::Modes;
 use store::Way;
 
 // What every call on a line's channels asks first: NOLINE, MODE.
-pub fn line_verdict(l: Line) -> Verdict
+pub fn relay_verdict(l: Line) -> Verdict
     ensures { λ r. ⌜ r ≡ verdict (relayLineTests l) ⌝ }
 {
     if l.opened != Line::OPEN {
@@ -40,7 +40,7 @@ pub fn line_verdict(l: Line) -> Verdict
 pub fn channel_verdict(l: Line, channel: u8) -> Verdict
     ensures { λ r. ⌜ r ≡ verdict (relayChannelTests l channel) ⌝ }
 {
-    let earlier = line_verdict(l);
+    let earlier = relay_verdict(l);
     match earlier {
         Verdict::Refuse(r) => Verdict::Refuse(r),
         Verdict::Pass => {

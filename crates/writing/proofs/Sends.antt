@@ -22,7 +22,7 @@ use Rattle.places.specs.declared.Place.the-variants.{At, Missing}
 use Rattle.places.proofs.Ranks.{rank-holds, rank-below}
 use Rattle.channel.specs.Channel.{modulus}
 use Rattle.sending.specs.Sending.{SendingOk, sendingFits, heldAt, heldOf, underWay}
-use Rattle.channel.specs.Sizes.{sizeFits}
+use Rattle.channel.specs.Sizes.{messageFits}
 use Rattle.sending.specs.declared.Held.{Held}
 use Rattle.sending.specs.declared.Ranked.{Ranked}
 use Rattle.sending.specs.declared.Ranked.the-variants.{Is, Nothing}
@@ -95,12 +95,12 @@ module _ (l : Line) (channel rank space : ℕ) where
 
 -- a message found by its rank lies at a place of the window and has a size that BOOK lets pass
 held-there : (w z : ℕ) (s : Sending) (rank : ℕ) → SendingOk w s → sendingFits w z s ≡ true → isHeld (heldOf w s rank) ≡ true
-    → (heldIn (heldOf w s rank) .place < w) × (sizeFits z (heldIn (heldOf w s rank) .size) ≡ true)
+    → (heldIn (heldOf w s rank) .place < w) × (messageFits z (heldIn (heldOf w s rank) .size) ≡ true)
 unfolding heldOf
 held-there w z s rank k f = go (rankOf (maskOf (s .unacked)) rank) refl
   where
     go : (p : Place) → rankOf (maskOf (s .unacked)) rank ≡ p → isHeld (heldAt w s p) ≡ true
-        → (heldIn (heldAt w s p) .place < w) × (sizeFits z (heldIn (heldAt w s p) .size) ≡ true)
+        → (heldIn (heldAt w s p) .place < w) × (messageFits z (heldIn (heldAt w s p) .size) ≡ true)
     go (At i) e t =
         let i-under : i < underWay s = rank-below (maskOf (s .unacked)) rank i (underWay s) (k .masked) e in
         (place-lt w (s .origin) i (k .placed) (omega (arith, k)), sending-sized w z s f i (omega (arith, k)) (rank-holds (maskOf (s .unacked)) rank i e .1))

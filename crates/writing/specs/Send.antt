@@ -10,7 +10,7 @@ use Rattle.ground.specs.declared.Refusal.the-variants.{NOTHING, ROOM}
 use Rattle.ground.specs.declared.Verdict.the-variants.{Pass}
 use Rattle.channel.specs.Channel.{modulus}
 use Rattle.sending.specs.Sending.{heldOf}
-use Rattle.channel.specs.Sizes.{sizeFits}
+use Rattle.channel.specs.Sizes.{messageFits}
 use Rattle.sending.specs.declared.Held.{Held}
 use Rattle.sending.specs.declared.Ranked.{Ranked}
 use Rattle.sending.specs.declared.Ranked.the-variants.{Is, Nothing}
@@ -71,5 +71,5 @@ heldPacket l channel h part =
 pub record Sendable (l : Line) (channel space : ℕ) (h : Held) : Type 0 where
   pub asked : verdict (relayChannelTests l channel) ≡ Pass
   pub placed : h .place < sendWindow l channel
-  pub sized : sizeFits (sendLargest l) (h .size) ≡ true
+  pub sized : messageFits (sendLargest l) (h .size) ≡ true
   pub roomy : sentLength l h ≤ space

@@ -88,7 +88,7 @@ pub fn header_length(l: Line) -> usize
 pub fn may_write_empty(l: Line, channel: u8, space: usize) -> Verdict
     ensures { λ r. ⌜ r ≡ verdict (emptyTests l channel space) ⌝ }
 {
-    let earlier = relay::line_verdict(l);
+    let earlier = relay::relay_verdict(l);
     match earlier {
         Verdict::Refuse(r) => Verdict::Refuse(r),
         Verdict::Pass => {

@@ -1,6 +1,6 @@
 use Rattle.slip.specs.Slip.{slipLength}
 use Rattle.calls.specs.Order.{closeOrder}
-use Rattle.calls.specs.Parts.{fitBook, lineNumber, mustBeOpen}
+use Rattle.calls.specs.Stages.{fitBook, lineNumber, mustBeOpen}
 use Rattle.book.specs.Book.{lineOf}
 use Rattle.calls.proofs.Stops.{stops, goes-on}
 use Rattle.ground.specs.declared.Refusal.the-variants.{ROOM}

@@ -1,6 +1,6 @@
 use Rattle.calls.proofs.FirstTests.{on-line}
-use Rattle.calls.specs.Parts.{fitBook, lineNumber, openTests}
-use Rattle.calls.proofs.OrderParts.{open-parts}
+use Rattle.calls.specs.Stages.{fitBook, lineNumber, openTests}
+use Rattle.calls.proofs.OrderStages.{open-stages}
 use Rattle.calls.proofs.Stops.{stops, goes-on}
 use mathlib.Core.List.{[], _∷_}
 use mathlib.Core.Path.{sym, _∙_}
@@ -21,10 +21,10 @@ may-open-line-requires : tie.Need-may-open-line-requires
 may-open-line-requires c κs = let o = on-line (c .before .before .before .args .book) (c .before .before .before .args .line) (sym (c .before .before .line-verdict .ensures) ∙ c .enum-told .given .1) in (o .number, o .few)
 
 returns : tie.Need-returns
-returns c = let a = c .before .before .before .before .args in stops (fitBook (a .book) ∷ lineNumber (a .line) ∷ []) (openTests (a .book) (a .line) (a .settings)) (open-parts (a .book) (a .line) (a .settings)) (c .before .before .before .line-verdict .ensures) (c .before .earlier .given .1)
+returns c = let a = c .before .before .before .before .args in stops (fitBook (a .book) ∷ lineNumber (a .line) ∷ []) (openTests (a .book) (a .line) (a .settings)) (open-stages (a .book) (a .line) (a .settings)) (c .before .before .before .line-verdict .ensures) (c .before .earlier .given .1)
 
 returns-2 : tie.Need-returns-2
-returns-2 c = let a = c .before .before .before .before .args in goes-on (fitBook (a .book) ∷ lineNumber (a .line) ∷ []) (openTests (a .book) (a .line) (a .settings)) (open-parts (a .book) (a .line) (a .settings)) (c .before .before .before .line-verdict .ensures) (c .before .enum-told .given .1) (c .may-open-line .ensures)
+returns-2 c = let a = c .before .before .before .before .args in goes-on (fitBook (a .book) ∷ lineNumber (a .line) ∷ []) (openTests (a .book) (a .line) (a .settings)) (open-stages (a .book) (a .line) (a .settings)) (c .before .before .before .line-verdict .ensures) (c .before .enum-told .given .1) (c .may-open-line .ensures)
 
 pub may-open-spec : {M : Type 1} → statement M
 may-open-spec =

@@ -1,5 +1,5 @@
 use Rattle.calls.proofs.FirstTests.{on-line}
-use Rattle.calls.specs.Parts.{fitBook, lineNumber, mustBeOpen}
+use Rattle.calls.specs.Stages.{fitBook, lineNumber, mustBeOpen}
 use Rattle.book.specs.Book.{lineOf}
 use Rattle.calls.proofs.Stops.{stops, goes-on}
 use mathlib.Core.List.{[], _∷_}

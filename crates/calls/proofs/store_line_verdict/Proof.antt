@@ -1,4 +1,4 @@
-use Rattle.calls.specs.Parts.{fitBook, roomy, lineNumber}
+use Rattle.calls.specs.Stages.{fitBook, roomy, lineNumber}
 use Rattle.calls.proofs.Stops.{stops, goes-on}
 use mathlib.Core.List.{[], _∷_}
 use mathlib.Core.Path.{refl}

@@ -2,7 +2,7 @@ use Rattle.gateway.proofs.Slips.{slip-passes}
 use Rattle.calls.proofs.Results.{did-refused, result-accepted}
 use Rattle.calls.specs.Result.{resultWith, acceptedResult, effect, slipOf}
 use Rattle.calls.proofs.FirstTests.{asked-line}
-use Rattle.calls.proofs.OrderParts.{close-parts}
+use Rattle.calls.proofs.OrderStages.{close-stages}
 use Rattle.calls.specs.Order.{order, lineFor}
 use Rattle.calls.specs.Call as call
 use Rattle.book.specs.Book.{lineOf}
@@ -26,7 +26,7 @@ enum-told : tie.Need-enum-told
 enum-told c = search needs
 
 line-requires : tie.Need-line-requires
-line-requires c κs = let a = c .before .before .before .before .args in asked-line (close-parts (a .book) (a .line) (length (now (a .out)))) (c .before .before .may-close .ensures) (c .enum-told .given .1) .0 .number
+line-requires c κs = let a = c .before .before .before .before .args in asked-line (close-stages (a .book) (a .line) (length (now (a .out)))) (c .before .before .may-close .ensures) (c .enum-told .given .1) .0 .number
 
 slip-of-requires : tie.Need-slip-of-requires
 slip-of-requires c κs = search needs
@@ -35,7 +35,7 @@ write-requires : tie.Need-write-requires
 write-requires c κs = search needs
 
 closed-at-requires : tie.Need-closed-at-requires
-closed-at-requires c κs = let a = c .before .before .before .before .before .before .before .before .before .before .args in let o = asked-line (close-parts (a .book) (a .line) (length (now (a .out)))) (c .before .before .before .before .before .before .before .before .may-close .ensures) (c .before .before .before .before .before .before .enum-told .given .1) .0 in (o .number, o .few)
+closed-at-requires c κs = let a = c .before .before .before .before .before .before .before .before .before .before .args in let o = asked-line (close-stages (a .book) (a .line) (length (now (a .out)))) (c .before .before .before .before .before .before .before .before .may-close .ensures) (c .before .before .before .before .before .before .enum-told .given .1) .0 in (o .number, o .few)
 
 returns : tie.Need-returns
 unfolding order acceptedResult effect lineFor
@@ -49,7 +49,7 @@ unfolding order acceptedResult effect lineFor
 returns-2 c =
     λ store. let a = c .before .before .before .before .before .before .before .before .before .before .before .args in
     let v = sym (c .before .before .before .before .before .before .before .before .before .may-close .ensures) ∙ c .before .before .before .before .before .before .before .enum-told .given .1 in
-    let o = asked-line (close-parts (a .book) (a .line) (length (now (a .out)))) refl v in
+    let o = asked-line (close-stages (a .book) (a .line) (length (now (a .out)))) refl v in
     let s = c .before .before .before .before .before .slip-of .ensures ∙ ap (λ (l : Line). slipOf l) (c .before .before .before .before .before .before .line .ensures) in
     let p = written-out (rw s at (c .before .before .before .write .ensures)) (slip-passes (lineOf (a .book) (a .line)) (length (now (a .out))) (o .0 .line) (o .1)) in
     (λ t. resultWith (writeSays (p .0 t)) (c .closed-at .ensures t) store (p .1 t)) ∙ sym (result-accepted (call.closing (a .line)) (a .book) store (now (a .out)) v)

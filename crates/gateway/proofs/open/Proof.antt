@@ -1,7 +1,7 @@
 use Rattle.calls.proofs.Results.{did-refused, result-accepted}
 use Rattle.calls.specs.Result.{resultWith, acceptedResult, effect}
 use Rattle.calls.proofs.FirstTests.{asked-line}
-use Rattle.calls.proofs.OrderParts.{open-parts}
+use Rattle.calls.proofs.OrderStages.{open-stages}
 use Rattle.calls.specs.Order.{order, lineFor}
 use Rattle.calls.specs.Call as call
 use Rattle.book.specs.declared.Book.{Book}
@@ -27,7 +27,7 @@ opened-with-requires : tie.Need-opened-with-requires
 opened-with-requires c κs = search needs
 
 with-line-requires : tie.Need-with-line-requires
-with-line-requires c κs = let a = c .before .before .before .before .args in asked-line (open-parts (a .book) (a .line) (a .settings)) (c .before .before .before .may-open .ensures) (c .before .enum-told .given .1) .0 .number
+with-line-requires c κs = let a = c .before .before .before .before .args in asked-line (open-stages (a .book) (a .line) (a .settings)) (c .before .before .before .may-open .ensures) (c .before .enum-told .given .1) .0 .number
 
 returns : tie.Need-returns
 unfolding order acceptedResult effect lineFor

@@ -1,7 +1,7 @@
 use Rattle.calls.proofs.Results.{did-refused, result-accepted}
 use Rattle.calls.specs.Result.{resultWith, acceptedResult, effect}
 use Rattle.calls.proofs.FirstTests.{asked-line}
-use Rattle.calls.proofs.OrderParts.{empty-parts}
+use Rattle.calls.proofs.OrderStages.{empty-stages}
 use Rattle.calls.specs.Order.{order, lineFor}
 use Rattle.calls.specs.Call as call
 use Rattle.book.specs.Book.{withLine}
@@ -27,13 +27,13 @@ enum-told : tie.Need-enum-told
 enum-told c = search needs
 
 line-requires : tie.Need-line-requires
-line-requires c κs = let a = c .before .before .before .before .args in asked-line (empty-parts (a .book) (a .line) (a .channel) (length (now (a .out)))) (c .before .before .may-write-empty .ensures) (c .enum-told .given .1) .0 .number
+line-requires c κs = let a = c .before .before .before .before .args in asked-line (empty-stages (a .book) (a .line) (a .channel) (length (now (a .out)))) (c .before .before .may-write-empty .ensures) (c .enum-told .given .1) .0 .number
 
 write-empty-requires : tie.Need-write-empty-requires
-write-empty-requires c κs = let a = c .before .before .before .before .before .before .args in let o = asked-line (empty-parts (a .book) (a .line) (a .channel) (length (now (a .out)))) (c .before .before .before .before .may-write-empty .ensures) (c .before .before .enum-told .given .1) in rw (c .before .line .ensures) (o .0 .line, o .1)
+write-empty-requires c κs = let a = c .before .before .before .before .before .before .args in let o = asked-line (empty-stages (a .book) (a .line) (a .channel) (length (now (a .out)))) (c .before .before .before .before .may-write-empty .ensures) (c .before .before .enum-told .given .1) in rw (c .before .line .ensures) (o .0 .line, o .1)
 
 with-line-requires : tie.Need-with-line-requires
-with-line-requires c κs = let a = c .before .before .before .before .before .before .before .before .before .args in asked-line (empty-parts (a .book) (a .line) (a .channel) (length (now (a .out)))) (c .before .before .before .before .before .before .before .may-write-empty .ensures) (c .before .before .before .before .before .enum-told .given .1) .0 .number
+with-line-requires c κs = let a = c .before .before .before .before .before .before .before .before .before .args in asked-line (empty-stages (a .book) (a .line) (a .channel) (length (now (a .out)))) (c .before .before .before .before .before .before .before .may-write-empty .ensures) (c .before .before .before .before .before .enum-told .given .1) .0 .number
 
 returns : tie.Need-returns
 unfolding order acceptedResult effect lineFor

@@ -1,7 +1,7 @@
 use Rattle.calls.proofs.Results.{did-refused, result-accepted, same-line}
 use Rattle.calls.specs.Result.{resultWith, acceptedResult, effect}
 use Rattle.calls.proofs.FirstTests.{asked-line}
-use Rattle.calls.proofs.OrderParts.{report-parts}
+use Rattle.calls.proofs.OrderStages.{report-stages}
 use Rattle.calls.specs.Order.{order, lineFor}
 use Rattle.calls.specs.Call as call
 use Rattle.line.specs.declared.Line.{Line}
@@ -24,7 +24,7 @@ enum-told : tie.Need-enum-told
 enum-told c = search needs
 
 line-requires : tie.Need-line-requires
-line-requires c κs = let a = c .before .before .before .args in asked-line (report-parts (a .book) (a .line) (a .channel)) (c .before .before .may-report .ensures) (c .enum-told .given .1) .0 .number
+line-requires c κs = let a = c .before .before .before .args in asked-line (report-stages (a .book) (a .line) (a .channel)) (c .before .before .may-report .ensures) (c .enum-told .given .1) .0 .number
 
 held-requires : tie.Need-held-requires
 held-requires c κs = search needs

@@ -14,7 +14,7 @@ use lib.ListN.{getD}
 use Rattle.channel.specs.Distance.{placeOf}
 use Rattle.ground.proofs.Every.{every-all, every-not, below-suc}
 use Rattle.places.specs.Places.{maskOf, bitOf}
-use Rattle.channel.specs.Sizes.{sizeFits, sizeAt, sizesFit}
+use Rattle.channel.specs.Sizes.{messageFits, sizeAt, sizesFit}
 use Rattle.channel.proofs.Distances.{place-lt}
 use Rattle.places.proofs.Bits.{bit-past}
 use Rattle.places.proofs.Masks.{mask-is}
@@ -29,8 +29,8 @@ abbrev μ-loop : tie.MeasureT-loop
 
 module _ (w z : ℕ) (sizes : List ℕ) (m origin i : ℕ) where
   -- a place of the set, whose size was looked at, and one that is not in the set
-  met : {p : ℕ} {t : Bool} → bitOf m i ≡ true → p ≡ placeOf origin i w → t ≡ sizeFits z (getD sizes p 0) → sizeAt w z sizes m origin i ≡ t
-  met b e f = rw b (ap (λ (p : ℕ). sizeFits z (getD sizes p 0)) (sym e) ∙ sym f)
+  met : {p : ℕ} {t : Bool} → bitOf m i ≡ true → p ≡ placeOf origin i w → t ≡ messageFits z (getD sizes p 0) → sizeAt w z sizes m origin i ≡ t
+  met b e f = rw b (ap (λ (p : ℕ). messageFits z (getD sizes p 0)) (sym e) ∙ sym f)
 
   unmet : bitOf m i ≡ false → sizeAt w z sizes m origin i ≡ true
   unmet b = rw b

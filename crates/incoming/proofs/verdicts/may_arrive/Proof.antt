@@ -1,6 +1,6 @@
 use Rattle.incoming.proofs.Arrivals.{arrives}
-use Rattle.calls.specs.Parts.{fitBook, roomy, arrivalTests}
-use Rattle.calls.proofs.OrderParts.{arrive-parts}
+use Rattle.calls.specs.Stages.{fitBook, roomy, arrivalTests}
+use Rattle.calls.proofs.OrderStages.{arrive-stages}
 use Rattle.calls.proofs.Stops.{stops, goes-on}
 use denote.Ref.{now}
 use mathlib.Core.List.{[], _∷_}
@@ -22,10 +22,10 @@ may-arrive-by-requires : tie.Need-may-arrive-by-requires
 may-arrive-by-requires c κs = search needs
 
 returns : tie.Need-returns
-returns c = let a = c .before .before .before .before .before .args in ap (arrives (a .book) (now (a .s))) (stops (fitBook (a .book) ∷ roomy (a .book) (a .store) ∷ []) (arrivalTests (a .book) (now (a .s))) (arrive-parts (a .book) (a .store) (now (a .s))) (c .before .before .before .store-verdict .ensures) (c .before .earlier .given .1))
+returns c = let a = c .before .before .before .before .before .args in ap (arrives (a .book) (now (a .s))) (stops (fitBook (a .book) ∷ roomy (a .book) (a .store) ∷ []) (arrivalTests (a .book) (now (a .s))) (arrive-stages (a .book) (a .store) (now (a .s))) (c .before .before .before .store-verdict .ensures) (c .before .earlier .given .1))
 
 returns-2 : tie.Need-returns-2
-returns-2 c = let a = c .before .before .before .before .before .args in c .may-arrive-by .ensures ∙ ap (arrives (a .book) (now (a .s))) (goes-on (fitBook (a .book) ∷ roomy (a .book) (a .store) ∷ []) (arrivalTests (a .book) (now (a .s))) (arrive-parts (a .book) (a .store) (now (a .s))) (c .before .before .before .store-verdict .ensures) (c .before .enum-told .given .1) refl)
+returns-2 c = let a = c .before .before .before .before .before .args in c .may-arrive-by .ensures ∙ ap (arrives (a .book) (now (a .s))) (goes-on (fitBook (a .book) ∷ roomy (a .book) (a .store) ∷ []) (arrivalTests (a .book) (now (a .s))) (arrive-stages (a .book) (a .store) (now (a .s))) (c .before .before .before .store-verdict .ensures) (c .before .enum-told .given .1) refl)
 
 pub may-arrive-spec : {M : Type 1} → statement M
 may-arrive-spec =

@@ -1,9 +1,9 @@
 use Rattle.calls.proofs.FirstTests.{on-line}
-use Rattle.calls.specs.Parts.{fitBook, lineNumber}
+use Rattle.calls.specs.Stages.{fitBook, lineNumber}
 use Rattle.book.specs.Book.{lineOf}
 use Rattle.relay.specs.RelayTests.{relayChannelTests}
 use Rattle.line.specs.declared.Line.{Line}
-use Rattle.calls.proofs.OrderParts.{report-parts}
+use Rattle.calls.proofs.OrderStages.{report-stages}
 use Rattle.calls.proofs.Stops.{stops, goes-on}
 use Rattle.ground.specs.Refusal.{verdict}
 use mathlib.Core.List.{[], _∷_}
@@ -28,12 +28,12 @@ channel-verdict-requires : tie.Need-channel-verdict-requires
 channel-verdict-requires c κs = search needs
 
 returns : tie.Need-returns
-returns c = let a = c .before .before .before .before .args in stops (fitBook (a .book) ∷ lineNumber (a .line) ∷ []) (relayChannelTests (lineOf (a .book) (a .line)) (a .channel)) (report-parts (a .book) (a .line) (a .channel)) (c .before .before .before .line-verdict .ensures) (c .before .earlier .given .1)
+returns c = let a = c .before .before .before .before .args in stops (fitBook (a .book) ∷ lineNumber (a .line) ∷ []) (relayChannelTests (lineOf (a .book) (a .line)) (a .channel)) (report-stages (a .book) (a .line) (a .channel)) (c .before .before .before .line-verdict .ensures) (c .before .earlier .given .1)
 
 returns-2 : tie.Need-returns-2
 returns-2 c =
     let a = c .before .before .before .before .before .args in
-    goes-on (fitBook (a .book) ∷ lineNumber (a .line) ∷ []) (relayChannelTests (lineOf (a .book) (a .line)) (a .channel)) (report-parts (a .book) (a .line) (a .channel)) (c .before .before .before .before .line-verdict .ensures) (c .before .before .enum-told .given .1)
+    goes-on (fitBook (a .book) ∷ lineNumber (a .line) ∷ []) (relayChannelTests (lineOf (a .book) (a .line)) (a .channel)) (report-stages (a .book) (a .line) (a .channel)) (c .before .before .before .before .line-verdict .ensures) (c .before .before .enum-told .given .1)
     (c .channel-verdict .ensures ∙ ap (λ (l : Line). verdict (relayChannelTests l (a .channel))) (c .before .line .ensures))
 
 pub may-report-spec : {M : Type 1} → statement M

@@ -1,11 +1,11 @@
 use Rattle.calls.proofs.FirstTests.{on-both}
-use Rattle.calls.specs.Parts.{fitBook, roomy, lineNumber}
+use Rattle.calls.specs.Stages.{fitBook, roomy, lineNumber}
 use Rattle.book.specs.Book.{lineOf}
 use Rattle.writing.specs.declared.SendVerdict.the-variants.{Message, Refused}
 use Rattle.writing.specs.declared.SendVerdict.{SendVerdict}
 use Rattle.writing.specs.Send.{sendTests, sendVerdict, ranked, heldIn}
 use Rattle.line.specs.declared.Line.{Line}
-use Rattle.calls.proofs.OrderParts.{send-parts}
+use Rattle.calls.proofs.OrderStages.{send-stages}
 use Rattle.calls.proofs.Stops.{stops, goes-on}
 use Rattle.ground.specs.declared.Verdict.{Verdict}
 use Rattle.ground.specs.Refusal.{settle}
@@ -35,7 +35,7 @@ unfolding sendVerdict
 returns c =
     let a = c .before .before .before .before .args in
     ap (λ (v : Verdict). settle {A = SendVerdict} v Refused (Message (heldIn (ranked (lineOf (a .book) (a .line)) (a .channel) (a .rank)))))
-    (stops (fitBook (a .book) ∷ roomy (a .book) (a .store) ∷ lineNumber (a .line) ∷ []) (sendTests (lineOf (a .book) (a .line)) (a .channel) (a .rank) (a .space)) (send-parts (a .book) (a .store) (a .line) (a .channel) (a .rank) (a .space)) (c .before .before .before .store-line-verdict .ensures) (c .before .earlier .given .1))
+    (stops (fitBook (a .book) ∷ roomy (a .book) (a .store) ∷ lineNumber (a .line) ∷ []) (sendTests (lineOf (a .book) (a .line)) (a .channel) (a .rank) (a .space)) (send-stages (a .book) (a .store) (a .line) (a .channel) (a .rank) (a .space)) (c .before .before .before .store-line-verdict .ensures) (c .before .earlier .given .1))
 
 returns-2 : tie.Need-returns-2
 unfolding sendVerdict
@@ -44,7 +44,7 @@ returns-2 c =
     c .may-send .ensures
     ∙ ap (λ (l : Line). sendVerdict l (a .channel) (a .rank) (a .space)) (c .before .line .ensures)
     ∙ ap (λ (v : Verdict). settle {A = SendVerdict} v Refused (Message (heldIn (ranked (lineOf (a .book) (a .line)) (a .channel) (a .rank)))))
-    (goes-on (fitBook (a .book) ∷ roomy (a .book) (a .store) ∷ lineNumber (a .line) ∷ []) (sendTests (lineOf (a .book) (a .line)) (a .channel) (a .rank) (a .space)) (send-parts (a .book) (a .store) (a .line) (a .channel) (a .rank) (a .space)) (c .before .before .before .before .store-line-verdict .ensures) (c .before .before .enum-told .given .1) refl)
+    (goes-on (fitBook (a .book) ∷ roomy (a .book) (a .store) ∷ lineNumber (a .line) ∷ []) (sendTests (lineOf (a .book) (a .line)) (a .channel) (a .rank) (a .space)) (send-stages (a .book) (a .store) (a .line) (a .channel) (a .rank) (a .space)) (c .before .before .before .before .store-line-verdict .ensures) (c .before .before .enum-told .given .1) refl)
 
 pub may-send-spec : {M : Type 1} → statement M
 may-send-spec =

@@ -1,5 +1,5 @@
--- How the parts that the crates below prove make up the lists of `Order`: what every call asks first, and after it what its line and
--- its channel ask. proofs/OrderParts.antt proves of each call that the parts put together are its list.
+-- How the stages that the crates below prove make up the lists of `Order`: what every call asks first, and after it what its line and
+-- its channel ask. proofs/OrderStages.antt proves of each call that its stages put together are its list.
 -- Assumes nothing.
 use Prim.Native.Nat.{ℕ}
 use mathlib.Core.Bool.{not}
@@ -26,7 +26,7 @@ use Rattle.book.specs.Parts.{storeLength}
 use Rattle.book.specs.declared.Book.{Book}
 use Rattle.calls.specs.Call.{Call}
 use Rattle.calls.specs.Call as call
-use Rattle.calls.specs.Order.{packetLine, isSomebody, lineAt}
+use Rattle.calls.specs.Order.{packetLine, isSomebody, ownerLine}
 
 -- the first tests of the calls
 abbrev pub fitBook : Book → Test
@@ -58,7 +58,7 @@ unfoldable pub addressTests : Book → List ℕ → List Test
 addressTests b s = headTests s ++ (must (isSomebody (packetLine b s)) NOLINE ∷ [])
 
 unfoldable pub arrivalTests : Book → List ℕ → List Test
-arrivalTests b s = addressTests b s ++ arriveTests (lineOf b (lineAt (packetLine b s))) s
+arrivalTests b s = addressTests b s ++ arriveTests (lineOf b (ownerLine (packetLine b s))) s
 
 -- every call's tests, put together
 unfoldable pub tests : Call → Book → ℕ → ℕ → List Test
