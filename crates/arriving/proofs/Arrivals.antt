@@ -14,7 +14,7 @@ use Rattle.ground.specs.declared.Refusal.the-variants.{SIZE}
 use Rattle.ground.specs.declared.Verdict.{Verdict}
 use Rattle.ground.specs.declared.Verdict.the-variants.{Pass, Refuse}
 use Rattle.ground.specs.declared.Refusal.{Refusal}
-use Rattle.ground.proofs.Verdicts.{Holds, passed, passes, verdict-on, verdict-stop}
+use Rattle.ground.proofs.Verdicts.{Holds, passed, verdict-on, verdict-stop}
 use Rattle.ground.proofs.Picks.{pick-by, each}
 use Rattle.field.proofs.Laws.{bits-lt}
 use Rattle.packet.specs.declared.Acks.{Acks}
@@ -112,10 +112,6 @@ module _ (l : Line) (s : List ℕ) (pass : verdict (arriveTests l s) ≡ Pass) w
   pub arrive-relaying : lineFits l ≡ true → isOpen l ≡ true → Relaying l
   unfolding arriveTests
   arrive-relaying f o = record { fits = f; opened = o; inside = eqb-true _ _ (tests .1 .0) }
-
-  pub arrive-list : verdict (listTests s) ≡ Pass
-  unfolding arriveTests
-  arrive-list = passes (listTests s) (tests .1 .1 .0, (tests .1 .1 .1 .0, tt))
 
   sized : sizeFits (channelAt s) (length s - headerLength s) (receiveLargest l) ≡ true
   unfolding arriveTests

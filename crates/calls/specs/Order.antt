@@ -118,7 +118,7 @@ sendOrder b store i channel rank space =
     ∷ must (leb (sentLength l (heldIn (ranked l channel rank))) space) ROOM
     ∷ []
 
--- "hand-out: NOLINE, MODE, CHANNEL, SPENT (hand-out only), NOTHING, ROOM."; message R stands at place 0 of what is stored (RULES 14.5)
+-- "hand-out: NOLINE, MODE, CHANNEL, SPENT (hand-out only), NOTHING, ROOM."; message R stands at offset 0 of what is stored (RULES 14.5)
 unfoldable pub handOutOrder : Book → ℕ → ℕ → ℕ → ℕ → List Test
 handOutOrder b store i channel space =
     let l = lineOf b i in

@@ -13,7 +13,7 @@ pub fn size_fits(size: u16, largest: u16) -> bool
     (0 < size) & (size <= largest)
 }
 
-// Has each message of the set, the oldest of which lies at place `origin`, 1 to `largest` octets? Only places of the set are looked
+// Has each message of the set, the oldest of which lies at place `origin`, 1 to `largest` octets? Only the places of its offsets are looked
 // at, and nothing past the highest.
 pub fn sizes_fit(
     sizes: [u16; Places::WIDEST],

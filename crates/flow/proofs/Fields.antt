@@ -8,7 +8,7 @@ use Rattle.ground.specs.Pick.{pick}
 use Rattle.channel.specs.Channel.{modulus}
 use Rattle.places.specs.Places.{maskOf, bitOf}
 use Rattle.receiving.specs.Receiving.{arrivalOf}
-use Rattle.sending.specs.Sending.{underWay, movedBy, heardBase, droppedAt, ackedBy, namedBy}
+use Rattle.sending.specs.Sending.{underWay, movedBy, heardBase, droppedAt, ackedBy}
 use Rattle.receiving.specs.declared.Arrival.the-variants.{Stored, There, Old}
 use Rattle.receiving.specs.declared.Receiving.{Receiving}
 use Rattle.sending.specs.declared.Sending.{Sending}
@@ -21,10 +21,6 @@ heard-field w s b = ap (λ (d : ℕ). pick (ltb 0 d && leb d (underWay s)) (move
 pub acked-field : (s : Sending) (k : ℕ) → ackedBy s (k % modulus) ≡ ackedBy s k
 unfolding ackedBy
 acked-field s k = ap (λ (d : ℕ). pick (ltb d (underWay s)) (droppedAt s d) s) (dist-field k (s .base))
-
-pub named-field : (s : Sending) (k : ℕ) → namedBy s (k % modulus) ≡ namedBy s k
-unfolding namedBy
-named-field s k = ap (λ (d : ℕ). ltb d (underWay s) && bitOf (maskOf (s .unacked)) d) (dist-field k (s .base))
 
 pub arrival-field : (w : ℕ) (r : Receiving) (n : ℕ) → arrivalOf w r (n % modulus) ≡ arrivalOf w r n
 unfolding arrivalOf

@@ -1,4 +1,3 @@
-pub mod Decisions
 pub mod Fields
 pub mod Flows
 pub mod Keeps

@@ -1,7 +1,7 @@
 // The gateway: every call on a book of four lines. A caller keeps the book by value, lends a store of at least `Book::STORE` octets
 // and an output where a call needs them, and gets back the book as the call leaves it, with the answer.
 //
-// Every call accepts every book, store, packet, message, setting and time, ends, and answers what document 01 says: a refusal
+// Every call accepts every book, store, packet, message, setting and time, ends, and answers what docs/RULES.md says: a refusal
 // by its name, with nothing changed, or its values. Nobody has to check anything first. CONNECT and BREAK bodies and slips are
 // read and written by the crates `connect`, `breaks` and `slip`, which need no book.
 //
@@ -24,8 +24,8 @@ use line::Settings;
 use slip::Slip;
 
 // The mode calls; their contracts stand in `signals`.
-pub use signals::hear; // hears an indication: answers S, and whether a P' notice is to be sent. NOLINE, CLOCK, RECOVERY, RANGE
-pub use signals::ask; // requests a mode: answers S. NOLINE, CLOCK, RECOVERY, RANGE, MODE
+pub use signals::hear; // hears an indication: answers the local mode, and whether a P' notice is to be sent. NOLINE, CLOCK, RECOVERY, RANGE
+pub use signals::ask; // requests a mode: answers the local mode. NOLINE, CLOCK, RECOVERY, RANGE, MODE
 pub use signals::tick; // tells the time: answers nothing due, a try of the audio indication, or ended. NOLINE, CLOCK
 
 // The calls in modem relay by which messages go out; their contracts stand in `outgoing`.

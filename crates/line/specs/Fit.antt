@@ -1,6 +1,5 @@
 -- What BOOK asks of one line (RULES 13.18). Of a closed one it reads the flag that says so and nothing else (RULES 15.1).
 -- Assumes nothing.
-use Prim.Native.Nat.{ℕ}
 use mathlib.Core.Bool.{Bool, _||_}
 use mathlib.Core.List.{List, [], _∷_}
 use lib.Dec.{leb, eqb}

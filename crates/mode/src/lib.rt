@@ -13,7 +13,7 @@ pub struct Modes {
     pub vbd: u8,
     // Modem relay is offered, as opening named it.
     pub relay: u8,
-    // S, the local mode: 1 a, 2 v or 3 m.
+    // The local mode: 1 a, 2 v or 3 m.
     pub local: u8,
     // The remote mode, as last heard: 1 a to 5 t, or 0 for i.
     pub remote: u8,
@@ -41,14 +41,14 @@ pub enum Channels {
 
 // What an indication heard is answered.
 pub enum HearAnswer {
-    // S, and whether a P' notice is to be sent.
+    // The local mode, and whether a P' notice is to be sent.
     Mode(u8, bool),
     Refused(Refusal),
 }
 
 // What a local request is answered.
 pub enum AskAnswer {
-    // S.
+    // The local mode.
     Mode(u8),
     Refused(Refusal),
 }

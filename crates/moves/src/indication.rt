@@ -76,7 +76,7 @@ fn hear_verdict(modes: Modes, mode: u8, time: u64) -> Verdict
     Verdict::Refuse(Refusal::RANGE)
 }
 
-// S after an indication: in recovery it stays a.
+// The local mode after an indication: in recovery it stays a.
 fn heard_mode(modes: Modes, mode: u8) -> u8
     ensures { λ r. ⌜ r ≡ heardMode modes mode ⌝ }
 {

@@ -1,5 +1,5 @@
 // A set of offsets as a mask: offset i is in it where bit i is set. Offsets count from the oldest message, so that moving on is a shift. With
-// the place of the oldest message an offset gives a message's place in its window (`channel::place`), of which the types have their names.
+// the place of the oldest message an offset gives a message's place in its window (`channel::place`), and the types are called after these places.
 // Contracts speak of the mask as a number: a window over 32 needs more words in the struct, and nothing above.
 ghost use mathlib.Core.Path.{_≡_};
 ghost use Prim.Native.Nat.{_/_, _^_, _<_};

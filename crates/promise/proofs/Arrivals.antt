@@ -26,7 +26,7 @@ use Rattle.laws.proofs.Others.{others-stay, parts-stay}
 use Rattle.promise.proofs.LineStays.{part-same}
 use Rattle.promise.proofs.OwnLine.{call-refused}
 use Rattle.promise.proofs.Packets.{answers, arrival-entitled}
-use Rattle.promise.specs.Demand2.{May, Stays, letIn}
+use Rattle.promise.specs.Demand2.{May, Stays, arrivedResult}
 use Rattle.promise.specs.Ours.{after, does}
 use Rattle.promise.specs.Run.{Gateway, Relays, accepts, lineAt}
 use Rattle.calls.specs.Call as call
@@ -38,7 +38,7 @@ module _ (g : Gateway) (shaped : BookShaped (g .book)) (s out : List ℕ) where
   abbrev at : ℕ
   at = lineFor c (g .book)
 
-  pub let-in : May g c out → does g c out ≡ letIn g at s out
+  pub let-in : May g c out → does g c out ≡ arrivedResult g at s out
   unfolding acceptedResult effect lineFor tests
   let-in may =
       let p = addressed (g .book) (length (g .store)) s (sym (in-stages c (g .book) (length (g .store)) (length out)) ∙ may) in

@@ -32,12 +32,12 @@ use Rattle.line.specs.Mode.{steppedTo}
 use Rattle.promise.specs.Build.{ours}
 use Rattle.promise.specs.Run.{Gateway, accepts, lineAt, Relays}
 use Rattle.promise.specs.Ours.{does, after}
-use Rattle.promise.specs.Demand2.{Ready, Gone, Demand2}
+use Rattle.promise.specs.Demand2.{Ready, movedResult, Gone, Demand2}
 use Rattle.promise.proofs.LineStays.{stepped-modes}
 use Rattle.promise.proofs.Bodies.{connect-written, connect-read, break-written, break-read, slip-read, slip-written}
 use Rattle.promise.proofs.Packets.{sending-writes, empty-writes, arrival-entitled}
 use Rattle.promise.proofs.Arrivals.{let-in, outside-stays}
-use Rattle.promise.proofs.ModesStay.{modes-stay, opens-in, closes}
+use Rattle.promise.proofs.ModesStay.{modes-stay, opens-line, closes-line}
 
 -- S after an indication that is heard, and after a request
 heard-local : (m : Modes) (k time : ℕ) → verdict (hearTests m k time) ≡ Pass → hearStep m k time .modes .local ≡ heardMode m k
@@ -61,6 +61,9 @@ module _ {g : Gateway} {i : ℕ} (r : Ready g i) (a : Act) (out : List ℕ) wher
       let l = steppedTo (lineAt g i) (outcome m a .modes) (outcome m a .channels) in
       ap (λ (d : CallResult). lineOf (d .book) i .modes) (sym (moved-did (g .book) i a refl there (g .store) out))
       ∙ ap (λ (x : Line). x .modes) (line-same (g .book) (r .shaped) i (r .small) l) ∙ stepped-modes (lineAt g i) (outcome m a .modes) (outcome m a .channels)
+
+  moved-whole : does g (call.mode i a) out ≡ movedResult g i a out
+  moved-whole = sym (moved-did (g .book) i a refl there (g .store) out)
 
   answer-said : does g (call.mode i a) out .answer ≡ outcome m a .said
   answer-said = ap (λ (d : CallResult). d .answer) (sym (moved-did (g .book) i a refl there (g .store) out))
@@ -113,10 +116,10 @@ ours-demand2 =
       inside = arrival-entitled;
       outside = outside-stays;
       lets-in = let-in;
-      opens = opens-in;
-      closes = λ g i r out space. closes r out space;
+      opens = opens-line;
+      closes = closes-line;
       modes-stay = modes-stay;
-      moves = λ g i r a out. (answer-said r a out, modes-left r a out);
+      moves = λ g i r a out. moved-whole r a out;
       hears = λ g i r k time e out. hears r k time e out;
       asks = λ g i r k time e out. asks r k time e out;
       leaves = λ g i r a out. leaves r a out;

@@ -39,6 +39,7 @@ use Rattle.promise.proofs.StepsKeep.{Pair, run-kept, run-on, arrives-he
 use Rattle.promise.proofs.Accepts.{report-passes, take-passes, send-passes, held-rank, hand-passes, empty-passes}
 use Rattle.promise.proofs.Drains.{drains, hands-go, hands-keep}
 use Rattle.promise.proofs.NotesTrue.{notes-true}
+use Rattle.promise.proofs.TakingSays.{taking-says}
 use Rattle.promise.proofs.GoesOn.{takes-more, settles}
 
 -- each way is the other seen from the other end
@@ -159,6 +160,7 @@ all-served {i} {g = g} {p = p} r a =
       takes = λ channel v m some few below space out.
           let pass = take-passes s a (k .joined) out channel v m some few below space in
           serves {p = tookPast p channel m} (call.taking i channel m) out pass o (took-kept s o (k .joined) out channel m pass);
+      numbers = λ channel m out e. taking-says g i p o channel m out e;
       ranks = λ channel v n low high full. each-has-rank r channel v a n low high full;
       sends = λ channel v rank l out space.
           let pass = call-passes g (call.sending i channel rank) out (sends-accepted r channel v a rank l out space) in

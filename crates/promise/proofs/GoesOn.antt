@@ -18,6 +18,7 @@ use Rattle.line.specs.Line.{sendingOf}
 use Rattle.line.specs.declared.Line.{Line}
 use Rattle.relay.specs.RelayTests.{reliable}
 use Rattle.calls.specs.Call as call
+use Rattle.calls.specs.Result.{CallResult}
 use Rattle.promise.specs.Past.{Past, tookPast, more}
 use Rattle.promise.specs.Run.{Gateway, lineAt, partIn, took, stay, here}
 use Rattle.promise.specs.Promise.{InRelay, sendsBy}
@@ -56,7 +57,7 @@ module _ {i j identifier kind : ℕ} {g h : Gateway} {p q : Past} (k : Pair i j 
       let s = k .mine in
       let ready : Ready g i = record { fits = s .fits; shaped = s .shaped; long = s .long; small = s .small; opened = is-open (s .phase) (a .0) .opened } in
       let zero : sendingOf (lineAt g i) c .taken - sendingOf (lineAt g i) c .base ≡ 0 = omega (arith, l, taken-count c v) in
-      report-exact ready (a .1) c v [] ∙ ap (λ (n : ℕ). accepted (heldFrom (sendsOf (partIn g i) (lineAt g i) c) n ∷ [])) zero
+      ap (λ (d : CallResult). d .answer) (report-exact ready (a .1) c v []) ∙ ap (λ (n : ℕ). accepted (heldFrom (sendsOf (partIn g i) (lineAt g i) c) n ∷ [])) zero
 
 module _ {i j identifier kind : ℕ} {g h : Gateway} {p q : Past} (k : Pair i j identifier kind g p h q) (a : InRelay g i p) (b : InRelay h j q) where
   abbrev start : Now i j identifier kind g p h q

@@ -23,6 +23,7 @@ use Rattle.promise.specs.Build.{ours}
 use Rattle.promise.specs.Run.{Gateway, lineAt, partIn}
 use Rattle.promise.specs.Ours.{does, after}
 use Rattle.promise.specs.Demand2.{Ready}
+use Rattle.promise.proofs.RestingStays.{resting-stays}
 use Rattle.promise.specs.Isolation.{SameLine, Calling, Told, callsFor, Has, Isolated}
 use Rattle.promise.specs.Isolation as iso
 
@@ -183,4 +184,5 @@ ours-isolated =
       runs = λ i g h s cs ds e o.
           let r = meets i (lineAt g i .identifier) (s .here .small) cs ds g h (record { mine = fit (s .here); yours = fit (s .there); has = λ _. refl; line = s .line; part = s .part }) e o in
           (r .tells, r .line, r .part);
+      rests = resting-stays;
     }

@@ -41,8 +41,10 @@ pub mod Demand1
 pub mod Demand2
 pub mod Again
 pub mod NotesTrue
+pub mod TakingSays
 pub mod Demand3
 pub mod AnyWay
 pub mod Witness
+pub mod RestingStays
 pub mod Isolation
 pub mod OpenedAlike

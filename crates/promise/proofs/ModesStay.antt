@@ -1,6 +1,6 @@
--- Which calls change the modes of a line: its opening, its closing and its mode calls, and no other.
+-- Which calls change the modes of a line: its opening, its closing and its mode calls, and no other; and what an opening and a closing leave.
 -- Assumes nothing.
-use Prim.Native.Nat.{_≤_, ℕ}
+use Prim.Native.Nat.{ℕ}
 use mathlib.Core.Bool.{false, true}
 use mathlib.Core.List.{List}
 use mathlib.Core.Path.{_∙_, _≡_, ap, refl, subst, sym}
@@ -12,25 +12,21 @@ use Rattle.book.specs.Book.{lineOf}
 use Rattle.book.specs.Parts.{partStart}
 use Rattle.book.specs.Shape.{BookShaped}
 use Rattle.book.specs.declared.Book.{Book}
-use Rattle.calls.proofs.OrderStages.{in-stages}
 use Rattle.calls.specs.Call.{Call}
 use Rattle.calls.specs.Order.{lineFor}
-use Rattle.calls.specs.Result.{effect}
+use Rattle.calls.proofs.Results.{result-accepted}
+use Rattle.calls.specs.Result.{acceptedResult, effect}
 use Rattle.ground.proofs.Either.{by-test}
 use Rattle.ground.proofs.Picks.{clash}
 use Rattle.laws.proofs.Others.{others-stay}
 use Rattle.laws.proofs.OwnLine.{own-line}
-use Rattle.line.specs.Line.{closedLine}
 use Rattle.line.specs.declared.Line.{Line}
 use Rattle.line.specs.declared.Settings.{Settings}
-use Rattle.mode.specs.Moved.{openedModes}
-use Rattle.promise.proofs.Bodies.{slip-written}
-use Rattle.promise.proofs.OwnLine.{Passes, call-accepted, call-passes, call-refused}
-use Rattle.promise.specs.Demand2.{May, Ready, ofModes}
+use Rattle.promise.proofs.OwnLine.{call-passes, call-refused}
+use Rattle.promise.specs.Demand2.{May, closedResult, ofModes, openedResult}
 use Rattle.promise.specs.Ours.{after, does}
 use Rattle.promise.specs.Run.{Gateway, accepts, lineAt}
 use Rattle.relay.proofs.Keeps.{handed-line-same, took-line-same}
-use Rattle.slip.specs.Slip.{slipLength}
 use Rattle.writing.proofs.Keeps.{wrote-line-same}
 use Rattle.calls.specs.Call as call
 
@@ -61,16 +57,11 @@ module _ (g : Gateway) (shaped : BookShaped (g .book)) where
           ∙ own-modes c (g .book) (lineAt g (lineFor c (g .book))) (partStart (g .book) (lineFor c (g .book))) (g .store) out (ap (ofModes c) q ∙ e))
       go t (no n) = ap (λ (l : Line). l .modes) (others-stay c (g .book) (g .store) out j n)
 
-  -- an opening that may be made is, and the line begins in its modes
-  pub opens-in : (i : ℕ) (s : Settings) (time : ℕ) (out : List ℕ) → May g (call.opening i s time) out
-      → (accepts (does g (call.opening i s time) out) ≡ true) × (lineAt (after g (call.opening i s time) out) i .modes ≡ openedModes (s .vbd) (s .relay) time)
-  unfolding lineFor effect
-  opens-in i s time out may =
-      let c = call.opening i s time in
-      let pass : Passes g c out = sym (in-stages c (g .book) (length (g .store)) (length out)) ∙ may in
-      (call-accepted g c out pass, ap (λ (l : Line). l .modes) (own-line c (g .book) (g .store) out pass shaped))
+-- an opening that may be made opens the line, and a closing closes it
+pub opens-line : (g : Gateway) (i : ℕ) (s : Settings) (time : ℕ) (out : List ℕ) → May g (call.opening i s time) out → does g (call.opening i s time) out ≡ openedResult g i s time out
+unfolding acceptedResult effect lineFor
+opens-line g i s time out may = result-accepted (call.opening i s time) (g .book) (g .store) out may
 
--- a closing leaves a closed line
-pub closes : {g : Gateway} {i : ℕ} → Ready g i → (out : List ℕ) → slipLength ≤ length out → lineAt (after g (call.closing i) out) i ≡ closedLine
-unfolding lineFor effect
-closes {g} {i} r out space = own-line (call.closing i) (g .book) (g .store) out (call-passes g (call.closing i) out (slip-written r out space .0)) (r .shaped)
+pub closes-line : (g : Gateway) (i : ℕ) (out : List ℕ) → May g (call.closing i) out → does g (call.closing i) out ≡ closedResult g i out
+unfolding acceptedResult effect lineFor
+closes-line g i out may = result-accepted (call.closing i) (g .book) (g .store) out may

@@ -19,7 +19,7 @@ use Rattle.flow.specs.Flow.{Message, HandOutMove, Flow, Grows}
 use Rattle.flow.specs.View.{receives}
 use Rattle.flow.proofs.Flows.{handed-grows}
 use Rattle.flow.proofs.Moves.{handed-moves}
-use Rattle.flow.proofs.OneWay.{handed-flow, next-message}
+use Rattle.flow.proofs.OneWay.{handed-flow}
 use Rattle.owed.specs.Owed.{owedOf}
 use Rattle.line.specs.Fit.{lineFits}
 use Rattle.line.specs.Figures.{sendWindow, receiveWindow, receiveLargest}
@@ -121,9 +121,6 @@ module _ {e f : End} (channel space : ℕ) (pass : verdict (handCallTests (e .li
       let s = region-end l (record { way = way.Receiving; channel = channel }) (side-served way.Receiving channel v) in
       slot-front (e .part) (regionOf l way.Receiving channel) (slotCount l way.Receiving channel) (omega (arith, s, k .long)) (r .origin) (nextSize r)
       (hand-size l (k .fits) channel space pass)
-
-  pub handed-is : got e channel .stored (r .next) ≡ handedOctets l channel (e .part)
-  handed-is = next-message (receiveWindow l channel) (slotsOf l (e .part) way.Receiving channel) r (gets-ok (k .sides) channel .placed) there ∙ octets
 
   side : got (afterHanding e channel) channel ≡ receives (receiveWindow l channel) (slotsOf l (e .part) way.Receiving channel) (handedOut (receiveWindow l channel) r)
   side = ap (receives (receiveWindow l channel) (slotsOf l (e .part) way.Receiving channel)) (receiving-here l channel (handedOut (receiveWindow l channel) r))

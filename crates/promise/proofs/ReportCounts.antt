@@ -28,9 +28,9 @@ use Rattle.book.proofs.Facts.{line-fits}
 use Rattle.calls.specs.Call as call
 use Rattle.calls.specs.Order.{lineFor}
 use Rattle.calls.specs.Stages.{tests, fitBook, lineNumber}
-use Rattle.calls.specs.Result.{CallResult, acceptedResult, effect}
+use Rattle.calls.specs.Result.{acceptedResult, effect, resultWith}
 use Rattle.calls.proofs.OrderStages.{in-stages}
-use Rattle.calls.proofs.Results.{result-accepted}
+use Rattle.calls.proofs.Results.{result-accepted, same-line}
 use Rattle.promise.specs.Build.{ours}
 use Rattle.promise.specs.Run.{Gateway, lineAt, Relays}
 use Rattle.promise.specs.Ours.{does}
@@ -94,9 +94,11 @@ module _ {g : Gateway} {i : ℕ} (r : Ready g i) (inside : Relays g i) (channel 
       verdict-on before (relayChannelTests (lineAt g i) channel) (passes before (r .fits, (le-leb i 3 (omega (arith, r .small)), tt))) ∙ relay-asked (lineAt g i) (r .opened) inside channel v
 
   -- "A held count made up at will is excluded by the report's rule"
-  pub report-exact : (out : List ℕ) → does g (call.report i channel) out .answer ≡ accepted (heldOf view ∷ [])
+  pub report-exact : (out : List ℕ) → does g (call.report i channel) out ≡ resultWith (accepted (heldOf view ∷ [])) (g .book) (g .store) out
   unfolding acceptedResult effect lineFor
-  report-exact out = ap (λ (d : CallResult). d .answer) (result-accepted (call.report i channel) (g .book) (g .store) out (in-stages (call.report i channel) (g .book) (length (g .store)) (length out) ∙ report-passes out)) ∙ ap (λ (n : ℕ). accepted (n ∷ [])) held-count
+  report-exact out =
+      result-accepted (call.report i channel) (g .book) (g .store) out (in-stages (call.report i channel) (g .book) (length (g .store)) (length out) ∙ report-passes out)
+      ∙ (λ t. resultWith (accepted (held-count t ∷ [])) (same-line (g .book) i t) (g .store) out)
 
 pub ours-reports : Reports ours
 ours-reports = record { exact = λ g i r inside channel v out. report-exact r inside channel v out }

@@ -4,9 +4,9 @@
 use Prim.Native.Nat.{ℕ, _%_, _≤_, _<_}
 use mathlib.Core.Path.{_≡_}
 use mathlib.Core.Bool.{Bool, true, false}
-use mathlib.Core.List.{List, [], _∷_}
+use mathlib.Core.List.{List, [], _∷_, _++_}
 use lib.Dec.{eqb}
-use lib.ListN.{length, getD}
+use lib.ListN.{length, drop, getD}
 use Rattle.ground.specs.Answer.{Answer, accepted}
 use Rattle.ground.specs.Pick.{bit}
 use Rattle.ground.specs.Refusal.{verdict}
@@ -30,13 +30,14 @@ use Rattle.channel.specs.Channel.{modulus}
 use Rattle.sending.specs.Sending.{heldCount}
 use Rattle.sending.specs.declared.Held.{Held}
 use Rattle.mode.specs.Given.{modem, hasLeft}
-use Rattle.mode.specs.Moved.{ended, openedModes}
+use Rattle.mode.specs.Moved.{ended}
 use Rattle.mode.specs.Indication.{hearTests, heardMode}
 use Rattle.mode.specs.Request.{askTests}
 use Rattle.mode.specs.TableC2.{permitted}
 use Rattle.mode.specs.Acts.{Act, hear, ask, outcome}
 use Rattle.mode.specs.declared.Modes.{Modes}
-use Rattle.line.specs.Line.{isOpen, sendingOf, closedLine}
+use Rattle.line.specs.Line.{isOpen, sendingOf, openedLine}
+use Rattle.line.specs.Mode.{steppedTo}
 use Rattle.line.specs.Part.{regionOf}
 use Rattle.line.specs.declared.Line.{Line}
 use Rattle.line.specs.declared.Settings.{Settings}
@@ -47,6 +48,7 @@ use Rattle.writing.specs.Write.{acksFor, headFor}
 use Rattle.writing.specs.Send.{ranked, heldIn, longestPacket}
 use Rattle.arriving.specs.Arrive.{arrivedLine, arrivedPart}
 use Rattle.book.specs.Book.{bookFits, withLine}
+use Rattle.book.specs.Closing.{closedAt}
 use Rattle.book.specs.Parts.{storeLength, withPart}
 use Rattle.book.specs.Shape.{BookShaped}
 use Rattle.calls.specs.Call.{Call}
@@ -101,12 +103,31 @@ pub record Entitled (l : Line) (s : List ℕ) : Type 0 where
 abbrev pub May : Gateway → Call → List ℕ → Type 0
 May g c out = verdict (order c (g .book) (length (g .store)) (length out)) ≡ Pass
 
+-- What a call leaves whose tests hold, whole: the answer, the book, the store and the output.
+
 -- a packet let in at line i: the answer names the line; base, acknowledgements and payload have had their effect on its record and on its part of
 -- the store; and all else is as it was
-abbrev pub letIn : Gateway → ℕ → List ℕ → List ℕ → CallResult
-letIn g i s out =
+abbrev pub arrivedResult : Gateway → ℕ → List ℕ → List ℕ → CallResult
+arrivedResult g i s out =
     resultWith (accepted (i ∷ [])) (withLine (g .book) i (arrivedLine (lineAt g i) s))
     (withPart (g .book) i (g .store) (arrivedPart (lineAt g i) s (partIn g i))) out
+
+-- line i opened
+abbrev pub openedResult : Gateway → ℕ → Settings → ℕ → List ℕ → CallResult
+openedResult g i s time out = resultWith (accepted []) (withLine (g .book) i (openedLine s time)) (g .store) out
+
+-- line i closed: its slip is written, its record is a closed line's, and its identifier rests
+abbrev pub closedResult : Gateway → ℕ → List ℕ → CallResult
+closedResult g i out =
+    let octets = slip.slipOctets (slipOf (lineAt g i)) in
+    resultWith (accepted (length octets ∷ [])) (closedAt (g .book) i) (g .store) (octets ++ drop (length octets) out)
+
+-- a mode call at line i, accepted or refused: it says, and makes of the line's modes and channels, what its sentences say
+abbrev pub movedResult : Gateway → ℕ → Act → List ℕ → CallResult
+movedResult g i a out =
+    let l = lineAt g i in
+    let o = outcome (l .modes) a in
+    resultWith (o .said) (withLine (g .book) i (steppedTo l (o .modes) (o .channels))) (g .store) out
 
 -- line j and its part of the store are as they were
 abbrev pub Stays : Gateway → Gateway → ℕ → Type 0
@@ -158,18 +179,16 @@ pub record Demand2 (b : Build) : Type 0 where
   pub outside : (g : Gateway) → BookShaped (g .book) → (s out : List ℕ) (j : ℕ) → (Relays g j → ⊥) → Stays g (after (b .does) g (call.arrival s) out) j
   -- a packet that passes its tests is let in, at the line that has its identifier
   pub lets-in : (g : Gateway) → BookShaped (g .book) → (s out : List ℕ) → May g (call.arrival s) out
-      → does (b .does) g (call.arrival s) out ≡ letIn g (lineFor (call.arrival s) (g .book)) s out
-  -- an opened line begins in the modes of an opening, a closed one has a closed line's, and no call but these and the mode calls changes any
-  pub opens : (g : Gateway) → BookShaped (g .book) → (i : ℕ) (s : Settings) (time : ℕ) (out : List ℕ) → May g (call.opening i s time) out
-      → (accepts (does (b .does) g (call.opening i s time) out) ≡ true)
-      × (lineAt (after (b .does) g (call.opening i s time) out) i .modes ≡ openedModes (s .vbd) (s .relay) time)
-  pub closes : (g : Gateway) (i : ℕ) → Ready g i → (out : List ℕ) → slip.slipLength ≤ length out → lineAt (after (b .does) g (call.closing i) out) i ≡ closedLine
+      → does (b .does) g (call.arrival s) out ≡ arrivedResult g (lineFor (call.arrival s) (g .book)) s out
+  -- an opening that passes its tests opens the line, and a closing closes it
+  pub opens : (g : Gateway) (i : ℕ) (s : Settings) (time : ℕ) (out : List ℕ) → May g (call.opening i s time) out
+      → does (b .does) g (call.opening i s time) out ≡ openedResult g i s time out
+  pub closes : (g : Gateway) (i : ℕ) (out : List ℕ) → May g (call.closing i) out → does (b .does) g (call.closing i) out ≡ closedResult g i out
+  -- no call but a line's own opening, closing and mode calls changes its modes
   pub modes-stay : (g : Gateway) → BookShaped (g .book) → (c : Call) (out : List ℕ) (j : ℕ) → ofModes c j ≡ false
       → lineAt (after (b .does) g c out) j .modes ≡ lineAt g j .modes
-  -- "media modes are those": a mode call says, and makes of the modes, what its sentences say, accepted or refused
-  pub moves : (g : Gateway) (i : ℕ) → Ready g i → (a : Act) (out : List ℕ)
-      → let o = outcome (lineAt g i .modes) a in
-      (does (b .does) g (call.mode i a) out .answer ≡ o .said) × (lineAt (after (b .does) g (call.mode i a) out) i .modes ≡ o .modes)
+  -- "media modes are those": a mode call says, and makes of the line, what its sentences say, accepted or refused
+  pub moves : (g : Gateway) (i : ℕ) → Ready g i → (a : Act) (out : List ℕ) → does (b .does) g (call.mode i a) out ≡ movedResult g i a out
   -- an indication that may be heard is, S is what the paper chooses, and Table C.2 permits it; a request names S
   pub hears : (g : Gateway) (i : ℕ) → Ready g i → (k time : ℕ) → verdict (hearTests (lineAt g i .modes) k time) ≡ Pass → (out : List ℕ)
       → (accepts (does (b .does) g (call.mode i (hear k time)) out) ≡ true)

@@ -1,12 +1,13 @@
 -- DEMAND 3, asked of any build: what holds at all times of the line between two gateways of that build, and that the build serves it. Without the
 -- second part a build that refuses everything would meet it.
 -- Assumes nothing.
-use Prim.Native.Nat.{ℕ, _-_, _≤_, _<_}
+use Prim.Native.Nat.{ℕ, _-_, _%_, _≤_, _<_}
 use mathlib.Core.Path.{_≡_}
 use mathlib.Core.Bool.{true}
-use mathlib.Core.List.{List}
+use mathlib.Core.List.{List, [], _∷_}
 use lib.ListN.{length}
-use Rattle.channel.specs.Channel.{cap}
+use Rattle.ground.specs.Answer.{accepted}
+use Rattle.channel.specs.Channel.{cap, modulus}
 use Rattle.flow.specs.Flow.{Message, Full}
 use Rattle.mode.specs.Given.{modem}
 use Rattle.mode.specs.Acts.{ask}
@@ -40,12 +41,16 @@ pub record Begins (f : Does) (g : Gateway) (i : ℕ) (s : Settings) (time then :
   pub accepted : accepts (does f g (call.opening i s time) out) ≡ true
   pub there : Serves f (after f g (call.opening i s time) out) i (call.mode i (ask modem then)) out
 
--- What is asked of the line between g and h, by what has become of it: p at g, q at h. `channel` is a reliable one, and the way is from g to h.
+-- What is asked of the line between g and h, by what has become of it: p at g, q at h. `channel` is a reliable one, and the way is from g to h. A run
+-- that is read from its other end is a run too, so it is asked of either end, and of both ways.
 module _ (f : Does) (within i j identifier kind : ℕ) (g : Gateway) (p : Past) (h : Gateway) (q : Past) where
   pub record Served : Type 0 where
     -- a message with room is taken
     pub takes : (channel : ℕ) → reliable channel ≡ true → (m : Message) → 1 ≤ length m → length m ≤ sendLargest (lineAt g i) → sendsBy g i p channel .S < cap
         → sendsBy g i p channel .S - sendsBy g i p channel .h < sendWindow (lineAt g i) channel → (out : List ℕ) → Serves f g i (call.taking i channel m) out
+    -- and the answer to its taking is its number, in 14 bits
+    pub numbers : (channel : ℕ) (m : Message) (out : List ℕ) → accepts (does f g (call.taking i channel m) out) ≡ true
+        → does f g (call.taking i channel m) out .answer ≡ accepted (sendsBy g i p channel .S % modulus ∷ [])
     -- every message that is held has a rank below what the report says, and every such rank is written
     pub ranks : (channel : ℕ) → reliable channel ≡ true → (n : ℕ) → sendsBy g i p channel .h ≤ n → n < sendsBy g i p channel .S → Full (sendsBy g i p channel .held n)
         → (rank : ℕ) × (rank < reportBy f g i channel) × (rankedMark g i channel rank .number ≡ n)

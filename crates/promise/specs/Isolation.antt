@@ -10,8 +10,10 @@ use mathlib.Core.List.{List, [], _∷_}
 use Rattle.ground.specs.Answer.{Answer}
 use Rattle.ground.specs.Pick.{pick}
 use Rattle.line.specs.Line.{isOpen}
+use Rattle.book.specs.Book.{restingOf}
 use Rattle.book.specs.Shape.{BookShaped}
 use Rattle.calls.specs.Call.{Call}
+use Rattle.laws.specs.Reached.{isClosing}
 use Rattle.laws.specs.LineCalls.{forLine, SameOnLine}
 use Rattle.promise.specs.Build.{Does, Build}
 use Rattle.promise.specs.Run.{Gateway, does, after, lineAt, partIn}
@@ -80,3 +82,5 @@ pub record Isolated (b : Build) : Type 0 where
       → (toldOn (b .does) i x g cs ≡ toldOn (b .does) i x h ds)
       × (lineAt (afterAll (b .does) g cs) i ≡ lineAt (afterAll (b .does) h ds) i)
       × (partIn (afterAll (b .does) g cs) i ≡ partIn (afterAll (b .does) h ds) i)
+  -- "So is one among the last 16 closed": which identifiers rest is changed by closings alone
+  pub rests : (g : Gateway) (c : Call) → isClosing c ≡ false → (out : List ℕ) → restingOf (after (b .does) g c out .book) ≡ restingOf (g .book)

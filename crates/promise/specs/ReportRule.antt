@@ -1,4 +1,5 @@
--- THE REPORT'S RULE, asked of any build: "A report says how many messages are held there unacknowledged". It excludes a count made up at will.
+-- THE REPORT'S RULE, asked of any build: "A report says how many messages are held there unacknowledged", and changes nothing. It excludes a count
+-- made up at will.
 -- Assumes nothing.
 use Prim.Native.Nat.{ℕ, zero, suc, _+_, _-_}
 use mathlib.Core.Path.{_≡_}
@@ -9,6 +10,7 @@ use Rattle.ground.specs.Pick.{pick}
 use Rattle.flow.specs.Flow.{Message, Sends}
 use Rattle.relay.specs.RelayTests.{reliable}
 use Rattle.calls.specs.Call as call
+use Rattle.calls.specs.Result.{resultWith}
 use Rattle.promise.specs.Build.{Build}
 use Rattle.promise.specs.Run.{Gateway, does, lineAt, partIn, Relays}
 use Rattle.promise.specs.Ends.{sendsOf}
@@ -30,4 +32,4 @@ heldOf s = heldFrom s (s .S - s .h)
 
 pub record Reports (b : Build) : Type 0 where
   pub exact : (g : Gateway) (i : ℕ) → Ready g i → Relays g i → (channel : ℕ) → reliable channel ≡ true → (out : List ℕ)
-      → does (b .does) g (call.report i channel) out .answer ≡ accepted (heldOf (sendsOf (partIn g i) (lineAt g i) channel) ∷ [])
+      → does (b .does) g (call.report i channel) out ≡ resultWith (accepted (heldOf (sendsOf (partIn g i) (lineAt g i) channel) ∷ [])) (g .book) (g .store) out

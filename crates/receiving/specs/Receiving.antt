@@ -1,4 +1,4 @@
--- The receiving side of a channel: R is `next`, message R + i is stored where place i is in `stored`.
+-- The receiving side of a channel: R is `next`, message R + i is stored where offset i is in `stored`.
 -- Assumes nothing.
 use Prim.Native.Nat.{ℕ, _+_, _/_, _^_, _≤_, _<_}
 use mathlib.Core.Bool.{Bool}

@@ -19,7 +19,7 @@ use places::Places;
 pub struct Receiving {
     // R: the next message to hand out, and how many were handed out. At most 16,777,215.
     pub next: u32,
-    // Place i is in the set where message R + i is stored. All are below the window.
+    // Offset i is in the set where message R + i is stored. All are below the window.
     pub stored: Places,
     // The place of message R; message R + i lies i places further on. Below the window.
     pub origin: u32,

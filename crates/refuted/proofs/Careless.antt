@@ -1,8 +1,6 @@
 -- A build that refuses by another number, one that asks in another order, and one whose refusal drops a message do not meet demand 1; nor do vandals,
--- or a build that stores into another line than it names, meet demand 2.
+-- a build that stores into another line than it names, or one that leaves a repeat unacknowledged, meet demand 2.
 -- Assumes nothing.
-
--- a line number over 3 is refused RANGE, of a book that BOOK lets pass
 use Prim.Native.Nat.{_+_, ℕ}
 use mathlib.Core.Bool.{true}
 use mathlib.Core.List.{List, [], _∷_}
@@ -48,12 +46,14 @@ use Rattle.promise.specs.Run.{Gateway, Relays}
 use Rattle.receiving.specs.Receiving.{arrivalOf, receivingFits, storedAt}
 use Rattle.refuted.proofs.IdlePackets.{made, made-passes, named}
 use Rattle.refuted.proofs.Rounds.{packet}
+use Rattle.refuted.specs.Quick.{silentOnRepeats}
 use Rattle.refuted.specs.Careless.{dropped, dropping, drops, misplacing, renumbered, reordered, vandals}
 use Rattle.sending.specs.Sending.{heardBase, sendingFits}
 use Rattle.calls.specs.Call as call
 use Rattle.channel.specs.Sizes as sizes
 use Rattle.packet.specs.Read as packet
 
+-- a line number over 3 is refused RANGE, of a book that BOOK lets pass
 past-range : (b : Book) → bookFits b ≡ true → (store space : ℕ) → verdict (order (call.closing 4) b store space) ≡ Refuse RANGE
 unfolding order closeOrder
 past-range b fits store space = rw fits refl
@@ -113,4 +113,15 @@ unfolding resultOf acceptedResult effect order lineFor openOrder askOrder bookFi
 misplacing-fails d =
     let away : Relays (made second) 0 → ⊥ = λ e. let n : _≡_ {A = ℕ} 1 3 = e in omega (arith, n) in
     let n : _≡_ {A = ℕ} 1 0 = ap (λ (l : Line). l .owed .count) (d .outside (made second) (made-passes second .1) carrying [] 0 away .0) in
+    omega (arith, n)
+
+-- a repeat for that line: one octet on channel 1, its number the last before 0
+abbrev repeated : List ℕ
+repeated = 5 ∷ 98 ∷ 127 ∷ 255 ∷ 0 ∷ 0 ∷ 7 ∷ []
+
+-- one number is owed where it is let in, and none is by the build
+pub silent-on-repeats-fails : Demand2 silentOnRepeats → ⊥
+unfolding resultOf acceptedResult effect order lineFor openOrder askOrder bookFits linesFit allSpan openIn lineFits member noTwice allSpans owedFits modesFit sendingFits receivingFits maskOf setOf sizes.sizesFit every askStep moved timed channelsFor steppedTo partStart arriveOrder ownerFrom headAt numberAt baseAt acksAt ackAt acksServed payloadOf packet.sizeFits bitsAt arrivedLine newsLine heardLine heardBase ackedAll storedLine arrivalOf storedAt entered enters
+silent-on-repeats-fails d =
+    let n : _≡_ {A = ℕ} 0 1 = ap (λ (x : CallResult). lineOf (x .book) 1 .owed .count) (d .lets-in (made second) (made-passes second .1) repeated [] refl) in
     omega (arith, n)

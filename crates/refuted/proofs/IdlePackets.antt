@@ -34,7 +34,7 @@ use Rattle.book.specs.Book.{freshBook, openIn, linesFit, bookFits}
 use Rattle.calls.specs.Call.{Call}
 use Rattle.calls.specs.Call as call
 use Rattle.calls.specs.Order.{openOrder, askOrder, takeOrder, order, lineFor}
-use Rattle.calls.specs.Result.{resultOf, acceptedResult, effect}
+use Rattle.calls.specs.Result.{CallResult, resultOf, acceptedResult, effect}
 use Rattle.laws.proofs.Identifiers.{fresh-passes}
 use Rattle.laws.proofs.Keeps.{Passes, every-call-keeps}
 use Rattle.promise.specs.Run.{Gateway, freshWith, accepts, does, given, lineAt}
@@ -101,7 +101,7 @@ pub made-up-fails : (n : ℕ) → Reports (madeUp n) → ⊥
 unfolding resultOf acceptedResult effect order lineFor openOrder askOrder bookFits linesFit allSpan openIn lineFits member noTwice allSpans owedFits modesFit sendingFits receivingFits maskOf setOf sizes.sizesFit every askStep moved timed channelsFor steppedTo takeOrder tookOne partStart heldFrom
 made-up-fails n d =
     let cs : List Call = call.opening 0 (named 5) 0 ∷ call.mode 0 (ask modem 0) ∷ call.taking 0 1 (7 ∷ []) ∷ [] in
-    let none = d .exact (there 5) 0 (ready (calls 5) 0 (lit< tt) refl (lit≤ tt)) refl 1 refl [] in
-    let one = d .exact (made cs) 0 (ready cs 0 (lit< tt) refl (lit≤ tt)) refl 1 refl [] in
+    let none = ap (λ (x : CallResult). x .answer) (d .exact (there 5) 0 (ready (calls 5) 0 (lit< tt) refl (lit≤ tt)) refl 1 refl []) in
+    let one = ap (λ (x : CallResult). x .answer) (d .exact (made cs) 0 (ready cs 0 (lit< tt) refl (lit≤ tt)) refl 1 refl []) in
     let e : _≡_ {A = ℕ} 0 1 = ap (λ (a : Answer). getD (a .values) 0 0) (sym none ∙ one) in
     omega (arith, e)

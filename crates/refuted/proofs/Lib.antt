@@ -1,6 +1,7 @@
 pub mod Idle
 pub mod IdlePackets
 pub mod Careless
+pub mod Meddling
 pub mod IdleRuns
 pub mod NeverMoves
 pub mod Ignoring

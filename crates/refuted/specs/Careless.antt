@@ -1,13 +1,11 @@
 -- CARELESS BUILDS: each acts as ours almost everywhere, and breaks a sentence of demand 1 or 2. Each is shown to fail that demand.
 -- Assumes nothing.
-
--- "refuses by the numbers in document 01": the answer's number is another
 use Prim.Native.Nat.{ℕ}
 use mathlib.Core.List.{List, [], _∷_}
 use lib.Dec.{eqb, leb}
 use lib.ListN.{length}
 use Rattle.arriving.specs.Arrive.{arrivedLine, arrivedPart}
-use Rattle.book.specs.Book.{bookFits, freshBook, lineOf, withLine}
+use Rattle.book.specs.Book.{bookFits, freshBook, lineOf, openIn, withLine}
 use Rattle.book.specs.Parts.{partOf, withPart}
 use Rattle.book.specs.declared.Book.{Book}
 use Rattle.calls.specs.Call.{Call}
@@ -18,7 +16,7 @@ use Rattle.ground.specs.Pick.{pick}
 use Rattle.ground.specs.Refusal.{Test, must, settle, verdict}
 use Rattle.ground.specs.declared.Refusal.the-variants.{BOOK, NOLINE, RANGE, ROOM}
 use Rattle.line.specs.Figures.{sendWindow}
-use Rattle.line.specs.Line.{isOpen, withSending}
+use Rattle.line.specs.Line.{isOpen, lineWith, withSending}
 use Rattle.line.specs.declared.Line.{Line}
 use Rattle.promise.specs.Build.{Build, Does}
 use Rattle.refuted.specs.Idle.{Arrives, arriving, doing}
@@ -26,6 +24,7 @@ use Rattle.sending.specs.Sending.{movedBy}
 use Rattle.slip.specs.Slip.{slipLength}
 use Rattle.calls.specs.Call as call
 
+-- "refuses by the numbers in document 01": the answer's number is another
 abbrev pub renumbers : (ℕ → ℕ) → Does
 renumbers f c b store out =
     let d = resultOf c b store out in
@@ -91,3 +90,41 @@ misplaces s b store out =
 
 abbrev pub misplacing : Build
 misplacing = doing (arriving misplaces)
+
+-- Ours, but that the book which an accepted opening, closing or mode call leaves is changed once more, by its line, the book before and the book after.
+abbrev rebooked : (ℕ → Book → Book → Book) → ℕ → Does
+rebooked change i c b store out =
+    let d = resultOf c b store out in
+    pick (eqb (d .answer .number) 0) (resultWith (d .answer) (change i b (d .book)) (d .store) (d .out)) d
+
+abbrev meddles : (ℕ → Book → Book → Book) → (ℕ → Book → Book → Book) → (ℕ → Book → Book → Book) → Does
+meddles opened closed moved (call.opening i s time) = rebooked opened i (call.opening i s time)
+meddles opened closed moved (call.closing i) = rebooked closed i (call.closing i)
+meddles opened closed moved (call.mode i a) = rebooked moved i (call.mode i a)
+meddles opened closed moved (call.taking i channel m) = resultOf (call.taking i channel m)
+meddles opened closed moved (call.sending i channel rank) = resultOf (call.sending i channel rank)
+meddles opened closed moved (call.empty i channel) = resultOf (call.empty i channel)
+meddles opened closed moved (call.arrival s) = resultOf (call.arrival s)
+meddles opened closed moved (call.handOut i channel) = resultOf (call.handOut i channel)
+meddles opened closed moved (call.report i channel) = resultOf (call.report i channel)
+
+abbrev left : ℕ → Book → Book → Book
+left i before after = after
+
+-- the line has all that it had, and is not open
+abbrev shut : ℕ → Book → Book
+shut i b =
+    let l = lineOf b i in
+    withLine b i (lineWith 0 (l .identifier) (l .kind) (l .modes) (l .sending1) (l .sending2) (l .receiving1) (l .receiving2) (l .owed))
+
+-- every opening is accepted as by ours, and only the first one opens a line
+abbrev pub opensOne : Build
+opensOne = doing (meddles (λ i before after. pick (eqb (length (openIn (before .lines))) 0) after (shut i after)) left left)
+
+-- a mode call closes the line
+abbrev pub movesAndShuts : Build
+movesAndShuts = doing (meddles left left (λ i before after. shut i after))
+
+-- no identifier rests: a line can be opened with it at once, and gets the late packets of the call before
+abbrev pub neverRests : Build
+neverRests = doing (meddles left (λ i before after. record { lines = after .lines; resting = before .resting; rested = before .rested }) left)

@@ -1,9 +1,9 @@
 -- QUICK BUILDS: document 01's 'Errors a quick build makes', written down as builds, and two by which lines are mixed. Each is shown to fail a demand, or
--- isolation. One is not here, as no demand excludes it: a repeat that goes unacknowledged. It is the exact contract of an arrival that does.
+-- isolation.
 -- Assumes nothing.
 use Rattle.line.specs.Figures.{sendWindow}
 use Prim.Native.Nat.{ℕ, _+_, _*_, _/_, _%_}
-use mathlib.Core.Bool.{Bool}
+use mathlib.Core.Bool.{Bool, true, false}
 use mathlib.Core.List.{List, [], _∷_}
 use lib.Dec.{ltb, eqb}
 use lib.ListN.{drop, getD}
@@ -15,8 +15,11 @@ use Rattle.places.specs.declared.Place.{Place}
 use Rattle.places.specs.declared.Place.the-variants.{At, Missing}
 use Rattle.sending.specs.Sending.{underWay, movedBy}
 use Rattle.sending.specs.declared.Sending.{Sending}
-use Rattle.line.specs.Line.{withParts}
+use Rattle.receiving.specs.declared.Arrival.{Arrival}
+use Rattle.receiving.specs.declared.Arrival.the-variants.{Stored, There, Old}
+use Rattle.line.specs.Line.{withParts, withOwed}
 use Rattle.line.specs.declared.Line.{Line}
+use Rattle.arriving.specs.Effect.{arrivalAt}
 use Rattle.book.specs.Book.{lineOf, withLine, openIn}
 use Rattle.calls.specs.Call as call
 use Rattle.calls.specs.Order.{lineFor}
@@ -49,6 +52,22 @@ frees s b store out =
 
 abbrev pub freesOnAck : Build
 freesOnAck = doing (arriving frees)
+
+-- "Letting a repeat go unacknowledged": of a message that is there already, or no longer in the window, nothing is owed
+abbrev repeats : Arrival → Bool
+repeats (Stored d) = false
+repeats There = true
+repeats Old = true
+
+abbrev pub hushes : Arrives
+hushes s b store out =
+    let d = resultOf (call.arrival s) b store out in
+    let i = lineFor (call.arrival s) b in
+    pick (repeats (arrivalAt (lineOf b i) (headAt s .channel) (headAt s .number)))
+    (resultWith (d .answer) (withLine (d .book) i (withOwed (lineOf (d .book) i) (lineOf b i .owed))) (d .store) out) d
+
+abbrev pub silentOnRepeats : Build
+silentOnRepeats = doing (arriving hushes)
 
 -- "Comparing sequence numbers by size": a message whose number is below R is an old one
 abbrev pub isOlder : ℕ → ℕ → Bool

@@ -1,4 +1,4 @@
--- The sending side of a channel: S is `taken`, h is `base`, message h + i is held where place i is in `unacked`.
+-- The sending side of a channel: S is `taken`, h is `base`, message h + i is held where offset i is in `unacked`.
 -- Assumes nothing.
 use Prim.Native.Nat.{ℕ, _+_, _-_, _/_, _^_, _≤_, _<_}
 use mathlib.Core.Bool.{Bool, _&&_}

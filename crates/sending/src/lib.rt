@@ -22,7 +22,7 @@ pub struct Sending {
     pub taken: u32,
     // h: the last base heard. At most S, and S - h is at most the window.
     pub base: u32,
-    // Place i is in the set where message h + i is held unacknowledged. All are below S - h.
+    // Offset i is in the set where message h + i is held unacknowledged. All are below S - h.
     pub unacked: Places,
     // The place of message h; message h + i lies i places further on. Below the window.
     pub origin: u32,
@@ -120,7 +120,7 @@ impl Sending {
         next
     }
 
-    // Number k is acknowledged: its message is dropped if it is under way, and its place stays taken until a base passes it.
+    // Number k is acknowledged: its message is dropped if it is under way, and its place stays in use until a base passes it.
     pub fn acknowledged(self, k: u32) -> Acknowledged
         requires { ⌜ (self .base ≤ self .taken) × (self .taken - self .base ≤ widest) ⌝ }
         ensures { λ r. ⌜ r ≡ acknowledgedBy self k ⌝ }

@@ -29,7 +29,7 @@ pub struct Ticked {
     pub answer: TickAnswer,
 }
 
-// Hears an indication of the far gateway's mode. Answers S, and whether a P' notice is to be sent.
+// Hears an indication of the far gateway's mode. Answers the local mode, and whether a P' notice is to be sent.
 // Refuses BOOK, RANGE for the line, NOLINE, CLOCK, RECOVERY, RANGE for the mode.
 pub fn hear(book: Book, line: u8, mode: u8, time: u64) -> Heard
     ensures { λ r. ⌜ ((store out : List ℕ) → resultWith (hearSays (r .answer)) (r .book) store out ≡ resultOf (call.mode line (act.hear mode time)) book store out) ⌝ }
@@ -52,7 +52,7 @@ pub fn hear(book: Book, line: u8, mode: u8, time: u64) -> Heard
     }
 }
 
-// Requests a mode. Answers S. Refuses BOOK, RANGE for the line, NOLINE, CLOCK, RECOVERY, RANGE for the mode, MODE.
+// Requests a mode. Answers the local mode. Refuses BOOK, RANGE for the line, NOLINE, CLOCK, RECOVERY, RANGE for the mode, MODE.
 pub fn ask(book: Book, line: u8, mode: u8, time: u64) -> Asked
     ensures { λ r. ⌜ ((store out : List ℕ) → resultWith (askSays (r .answer)) (r .book) store out ≡ resultOf (call.mode line (act.ask mode time)) book store out) ⌝ }
 {

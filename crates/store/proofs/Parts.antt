@@ -3,9 +3,9 @@
 use Prim.Native.Nat.{ℕ, _+_, _≤_}
 use mathlib.Core.Path.{_≡_, sym, ap, _∙_}
 use mathlib.Core.List.{List, _++_, append-assoc}
-use mathlib.Core.Logic.{_⊎_, ⊎-elim}
+use mathlib.Core.Logic.{⊎-elim}
 use native.Mathlib.Omega.{arith}
-use lib.ListN.{length, take, drop, length-drop, take-append-drop, length-append}
+use lib.ListN.{length, take, drop, length-drop, take-append-drop}
 use lib.Seq.{sets, length-sets, drop-drop, length-take-le, drop-append-le, take-take, take-add}
 use Rattle.store.specs.Store.{partAt, withPartAt}
 use Rattle.store.proofs.Octets.{written, read-same, read-before, behind}
@@ -14,16 +14,6 @@ use Rattle.store.proofs.Slots.{Apart}
 -- octets put back as they were leave the store as it was
 pub part-same : (start n : ℕ) (store : List ℕ) → withPartAt start n store (partAt start n store) ≡ store
 part-same start n store = ap (λ (l : List ℕ). take start store ++ l) (take-append-drop n (drop start store)) ∙ take-append-drop start store
-
--- as many others in their place leave it as long as it was
-pub part-lengths : (start n : ℕ) (store part : List ℕ) → length part ≡ length (partAt start n store) → length (withPartAt start n store part) ≡ length store
-part-lengths start n store part e =
-    let rest = drop n (drop start store) in
-    let one = length-append (take start store) (part ++ rest) in
-    let two = length-append part rest in
-    let was = length-append (take start store) (partAt start n store ++ rest) in
-    let there = length-append (partAt start n store) rest in
-    omega (arith, one, two, was, there, ap length (part-same start n store))
 
 -- The n octets from `start` on, in a store that has them.
 module _ (start n : ℕ) (store : List ℕ) (inside : start + n ≤ length store) where

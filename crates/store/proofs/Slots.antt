@@ -1,7 +1,7 @@
 -- No two slots of a line's part overlap.
 -- Assumes nothing.
 use Prim.Native.Nat.{ℕ, _+_, _*_, _≤_, _<_}
-use mathlib.Core.Path.{_≡_, refl}
+use mathlib.Core.Path.{_≡_}
 use mathlib.Core.Logic.{_≢_, _⊎_, inl, inr, ⊎-elim}
 use native.Mathlib.Decide.{decLt}
 use native.Mathlib.Nat.{suc-mul, add-mul, mul-le-mul-right}
@@ -37,9 +37,6 @@ regions-slots g k v w p q a b = ⊎-elim (λ s. inl (omega (arith, slot-next g p
 module _ (start v w size : ℕ) where
   pub first-end : slotAt (regionFrom start v size 1) v ≡ start + v * size
   first-end = omega arith
-
-  pub second-start : regionFrom start v size 2 .start ≡ start + v * size
-  second-start = refl
 
   pub second-end : slotAt (regionFrom start v size 2) w ≡ start + (v + w) * size
   second-end = omega (arith, add-mul v w size)
