@@ -104,6 +104,7 @@ module _ (f : Does) where
 
   module _ (within : ℕ) where
     -- "Provided that every packet arriving for the line" is such a packet: asked only of one that is let in there. Nothing is assumed of any other call.
+    -- In a run `heard`, below, asks it; this is for the theorem that no call is left out.
     abbrev pub Provided : ℕ → Gateway → Past → Past → List ℕ → Call → Type 0
     Provided i g p q out (call.arrival s) = accepts (does g (call.arrival s) out) ≡ true → lineFor (call.arrival s) (g .book) ≡ i → (k : Packet) × Honest within p q s k
     Provided i g p q out (call.opening _ s time) = Unit

@@ -1,5 +1,5 @@
 -- RUNS AS WIDE AS THE WORDS: "Packets may be lost, repeated or reordered". A premise that let in less, the last packet written alone for instance,
--- would leave every promise proved and say little. What is shown here of runs excludes it.
+-- would leave every promise proved and say little. What is shown here of the messages that packets carry excludes it.
 -- Assumes nothing.
 use Prim.Native.Nat.{ℕ, _≤_}
 use mathlib.Core.Path.{_≡_}
