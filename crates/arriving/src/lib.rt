@@ -1,6 +1,8 @@
 // What an arriving packet asks of its line (RULES 14.2), and what it does to it and to its part of the store (RULES 4.2). A verdict is
 // worked out first, and an effect is made only where it lets the packet pass. The packet's first tests are in `packet`, the search for
 // the line by its identifier is in `book`.
+#![tactic(auto)]
+
 ghost use Rattle.std.specs.Prelude.{◌≡◌, true, ◌≤◌, length};
 ghost use Rattle.ground.specs.Refusal.{verdict, settle};
 ghost use Rattle.ground.specs.declared.Verdict.TheVariants.{Pass};

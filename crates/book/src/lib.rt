@@ -2,6 +2,8 @@
 // BOOK asks of it (RULES 13.18), how a packet's line is found (RULES 4.1), what a line's closing leaves (RULES 7.5), and where each line's
 // part of the store begins (RULES 6.4). What the other
 // calls do to a line is in `line`, `relay`, `writing` and `arriving`.
+#![tactic(auto)]
+
 ghost use Rattle.std.specs.Prelude.{◌≡◌, true, ◌≤◌, ◌<◌};
 ghost use Rattle.book.specs.Book.{fresh_book, line_of, with_line, open_in, lines_fit, book_fits, owner_of, taken};
 ghost use Rattle.book.specs.Closing.{closed_at};
@@ -13,7 +15,7 @@ use line::Line;
 mod resting; // resting.rt: the identifiers that rest
 
 #[repr(C)]
-#[derive(Drop)]
+#[derive(Clone, Copy)]
 pub struct Book {
     pub lines: [Line; 4],
     // The identifiers that rest, oldest first; what stands after them is not read.
@@ -23,14 +25,14 @@ pub struct Book {
 }
 
 // Which identifiers were seen, 1 for each, and whether none of them came twice.
-#[derive(Drop)]
+#[derive(Clone, Copy)]
 pub struct Seen {
     pub marks: [u8; 128],
     pub once: bool,
 }
 
 // The line that has an identifier.
-#[derive(Drop)]
+#[derive(Clone, Copy)]
 pub enum Owner {
     At(u8),
     Nobody,

@@ -1,4 +1,6 @@
 // The BREAK body: V.150.1 clause 15.4.6, Table 26, as RULES section 12 serves it. Two octets, read and written.
+#![tactic(auto)]
+
 ghost use Rattle.std.specs.Prelude.{◌≡◌, length};
 ghost use Rattle.ground.specs.Refusal.{verdict};
 ghost use Rattle.ground.specs.Answer.{Gives, Writes};
@@ -6,7 +8,7 @@ ghost use Rattle.breaks.specs.Break.{break_at, break_fits, break_octets, answer_
 
 use ground::{Refusal, Verdict, WriteAnswer};
 
-#[derive(Drop)]
+#[derive(Clone, Copy)]
 pub struct Break {
     // The protocol that it came by: 0 LAPM, 1 Annex A of V.42, 2 V.14.
     pub source: u8,
@@ -17,7 +19,7 @@ pub struct Break {
 }
 
 // What a body says, or why it says nothing.
-#[derive(Drop)]
+#[derive(Clone, Copy)]
 pub enum Reading {
     Says(Break),
     Refused(Refusal),

@@ -2,6 +2,8 @@
 // first, all that opening and closing ask before they make their effect, and of the mode calls what they ask of the book, up to
 // NOLINE; CLOCK to MODE are asked in `moves`. Which calls there are and what each does is defined in specs/, beside the order, specs/Order.antt.
 // Of the store and of the output only the length counts.
+#![tactic(auto)]
+
 ghost use Rattle.std.specs.Prelude.{◌≡◌, ◌≤◌, ◌<◌, [], ◌∷◌};
 ghost use Rattle.ground.specs.Refusal.{verdict};
 ghost use Rattle.book.specs.Book.{line_of};
@@ -14,7 +16,7 @@ use line::{Line, Settings};
 use slip::Slip;
 
 // What a call leaves that writes into an output: how many octets were written there.
-#[derive(Drop)]
+#[derive(Clone, Copy)]
 pub struct Written {
     pub book: Book,
     pub answer: WriteAnswer,

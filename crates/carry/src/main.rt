@@ -4,6 +4,8 @@
 // `carry COUNT OCTETS WHAT`, where WHAT is `carry`, or `check`, the same with one refused call more before each call; or `bare`,
 // the program's own work without a call; or `still` or `full`, COUNT refused calls on a book that holds nothing, or whose windows
 // and owed lists are full.
+#![tactic(auto)]
+
 use book::Book;
 use gateway::{HeldAnswer, Written};
 use ground::WriteAnswer;
@@ -28,14 +30,14 @@ const OCTETS: usize = 1;
 const REFUSED: usize = 2;
 
 // How many octets each message has, and whether each call is preceded by a refused one.
-#[derive(Drop)]
+#[derive(Clone, Copy)]
 struct Run {
     size: usize,
     check: bool,
 }
 
 // The books of two gateways.
-#[derive(Drop)]
+#[derive(Clone, Copy)]
 struct Books {
     a: Book,
     b: Book,

@@ -1,6 +1,8 @@
 // What the two sides of a reliable channel share: its windows (RULES 3.2), how far a number lies past another (RULES 4.3, RULES 4.7),
 // where a message lies (RULES 6.5), and which sizes fit (RULES 3.4). The sides are `sending` and `receiving`; octets are the matter of
 // `store`, lines of `line`, packets of `packet`.
+#![tactic(auto)]
+
 ghost use Rattle.std.specs.Prelude.{◌≡◌, ◌+◌, ◌^◌, ◌<◌};
 ghost use Rattle.channel.specs.Channel.{channel_of};
 ghost use Rattle.channel.specs.Distance.{dist, place_of};
@@ -10,7 +12,7 @@ mod sizes;
 pub use sizes::{size_fits, sizes_fit};
 
 // What is settled of a channel before it is used.
-#[derive(Drop)]
+#[derive(Clone, Copy)]
 pub struct Channel {
     // How many messages may be under way: S - h is never over it.
     pub window: u32,

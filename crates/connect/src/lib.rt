@@ -1,5 +1,7 @@
 // The CONNECT body: V.150.1 clause 15.4.5, Table 25, as RULES section 11 serves it. Read and written.
 // A body has 8 octets; 14 where the compression is V.42 bis, 18 where it is V.44.
+#![tactic(auto)]
+
 ghost use Rattle.std.specs.Prelude.{◌≡◌, true, ◌<◌, length};
 ghost use Rattle.ground.specs.Refusal.{verdict};
 ghost use Rattle.ground.specs.Answer.{Gives, Writes};
@@ -12,7 +14,7 @@ ghost use Rattle.std.proofs.lemmas.List.Edits.{sets};
 use ground::{Refusal, Verdict, WriteAnswer};
 
 // What is told of one direction of the link. What has no place in the body is 0.
-#[derive(Drop)]
+#[derive(Clone, Copy)]
 pub struct Way {
     // Data signalling rate, in bit/s.
     pub rate: u16,
@@ -24,7 +26,7 @@ pub struct Way {
     pub history: u16,
 }
 
-#[derive(Drop)]
+#[derive(Clone, Copy)]
 pub struct Connect {
     // 0 to 30; 31 to 63 are read and never written.
     pub modulation: u8,
@@ -46,7 +48,7 @@ pub struct Connect {
 }
 
 // What a body says, or why it says nothing.
-#[derive(Drop)]
+#[derive(Clone, Copy)]
 pub enum Reading {
     Says(Connect),
     Refused(Refusal),

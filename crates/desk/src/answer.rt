@@ -4,7 +4,7 @@ use gateway::{ArriveAnswer, HeldAnswer, TakeAnswer};
 use ground::{Refusal, Verdict, WriteAnswer};
 use mode::{AskAnswer, HearAnswer, TickAnswer};
 
-#[derive(Drop)]
+#[derive(Clone, Copy)]
 pub enum Reply {
     // The line is no call, for the reason of that number in the list of `why`.
     NoCall(u8),

@@ -1,6 +1,8 @@
 // The desk: it reads a script of calls on standard input, makes each call at one of two gateways, A and B, and writes one line
 // of answer for each. It decides nothing: it reads a line, makes the call, and writes what the call answered. docs/SCRIPT.md
 // says what a line may be.
+#![tactic(auto)]
+
 ghost use Rattle.std.specs.Prelude.{◌<◌, ◌≤◌};
 
 use answer::Reply;
@@ -18,7 +20,7 @@ mod sides; // sides.rt: `spoil`, one part of a channel's sides
 mod spoil; // spoil.rt: `spoil`, the part of a book that it names
 
 // A gateway: its book, how many octets of its store are lent, and what its last call is answered.
-#[derive(Drop)]
+#[derive(Clone, Copy)]
 pub struct Seat {
     pub book: Book,
     pub lent: usize,
@@ -27,7 +29,7 @@ pub struct Seat {
 
 // The books of the gateways A and B, how much of their stores is lent, the line that is being read, and what the last one is
 // answered.
-#[derive(Drop)]
+#[derive(Clone, Copy)]
 struct Desk {
     books: [Book; 2],
     lent: [usize; 2],

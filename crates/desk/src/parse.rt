@@ -4,7 +4,7 @@ use crate::script::Script;
 use words::Arguments;
 
 // A call that a line names.
-#[derive(Drop)]
+#[derive(Clone, Copy)]
 pub struct Request {
     // Where: at A (0) or B (1), or of a CONNECT (2), a BREAK (3) or a slip (4).
     pub place: u8,

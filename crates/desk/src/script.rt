@@ -5,7 +5,7 @@ ghost use Rattle.std.specs.Prelude.{◌<◌};
 use std::num::{wrapping_add_u64, wrapping_add_usize};
 
 // The line that is being read. Its octets lie at the start of a buffer of the desk.
-#[derive(Drop)]
+#[derive(Clone, Copy)]
 pub struct Script {
     // The line's number, from 1, with every line counted.
     pub number: u64,

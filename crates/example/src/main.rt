@@ -1,4 +1,6 @@
 // A program to begin with: two gateways in one process carry twelve messages over a link that loses every third packet.
+#![tactic(auto)]
+
 use book::Book;
 use gateway::{ArriveAnswer, HeldAnswer, TakeAnswer};
 use ground::WriteAnswer;
@@ -12,7 +14,7 @@ const MESSAGES: u8 = 12;
 const ROUNDS: u8 = 100;
 
 // The two gateways, how many messages the site has taken, and how many the office has handed out.
-#[derive(Drop)]
+#[derive(Clone, Copy)]
 struct Ends {
     site: Book,
     office: Book,

@@ -1,5 +1,7 @@
 // Octets and the numbers that lie in them, most significant first (RULES 1.7): read and written by masks and shifts.
 // Every function here is total. An octet past the end reads as 0, and one that has no place is not written.
+#![tactic(auto)]
+
 ghost use Rattle.std.specs.Prelude.{◌≡◌, ◌*◌, min, get_or, set};
 ghost use Rattle.std.proofs.lemmas.List.Edits.{sets};
 ghost use Rattle.field.specs.Bits.{bits_at};

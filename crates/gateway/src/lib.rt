@@ -8,6 +8,8 @@
 // Every call that is given a book refuses BOOK first, then ROOM where it is lent a store that is too small, then RANGE where it
 // names a line over 3. What it refuses after that is said beside it, in order. A fresh book, opening and closing stand in this
 // file; the other calls are passed on from three crates, where each one's contract stands.
+#![tactic(auto)]
+
 ghost use Rattle.std.specs.Prelude.{ℕ, ◌≡◌, List};
 ghost use Rattle.ground.specs.Answer.{write_says};
 ghost use Rattle.book.specs.Book.{fresh_book};
@@ -46,7 +48,7 @@ pub use incoming::Arrived; // arrive's is an `ArriveAnswer`
 pub use incoming::ArriveAnswer; // a packet's line, or a refusal
 pub use calls::Written; // send, empty, hand_out and closing answer a `ground::WriteAnswer`: how many octets are in the output, or a refusal
 
-#[derive(Drop)]
+#[derive(Clone, Copy)]
 pub struct Opened {
     pub book: Book,
     pub answer: Verdict,

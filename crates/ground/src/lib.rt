@@ -1,9 +1,11 @@
 // What every crate stands on: the refusals by name (RULES 13.1 to RULES 13.18), and the two shapes of answer that carry them.
+#![tactic(auto)]
+
 ghost use Rattle.std.specs.Prelude.{◌≡◌};
 ghost use Rattle.ground.specs.Refusal.{number_of};
 
 // The eighteen refusals, in the order of their numbers.
-#[derive(Drop)]
+#[derive(Clone, Copy)]
 pub enum Refusal {
     SHORT,
     FORM,
@@ -26,14 +28,14 @@ pub enum Refusal {
 }
 
 // What a run of tests in a call's order comes to: all hold, or the refusal of the first that does not.
-#[derive(Drop)]
+#[derive(Clone, Copy)]
 pub enum Verdict {
     Pass,
     Refuse(Refusal),
 }
 
 // What a call that writes octets answers: how many it wrote, or why it wrote none.
-#[derive(Drop)]
+#[derive(Clone, Copy)]
 pub enum WriteAnswer {
     Wrote(usize),
     Refused(Refusal),

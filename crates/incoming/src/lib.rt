@@ -1,5 +1,7 @@
 // The relay calls on a book of four lines by which messages come in: a packet that arrives, a message handed out
 // (RULES 4.1, RULES 4.2, RULES 5.8). They are calls of the library, and `gateway` passes them on.
+#![tactic(auto)]
+
 ghost use Rattle.std.specs.Prelude.{ℕ, ◌≡◌, List};
 ghost use Rattle.ground.specs.Answer.{write_says};
 ghost use Rattle.calls.specs.Call as call;
@@ -14,7 +16,7 @@ use packet::{Acks, Head};
 mod verdicts; // verdicts.rt: what refuses them
 
 // A packet that may arrive: the line that it is for, and what was read of it on the way.
-#[derive(Drop)]
+#[derive(Clone, Copy)]
 pub struct Arriving {
     pub line: u8,
     pub head: Head,
@@ -22,20 +24,20 @@ pub struct Arriving {
 }
 
 // The packet that may arrive, or why it may not.
-#[derive(Drop)]
+#[derive(Clone, Copy)]
 pub enum ArriveVerdict {
     Packet(Arriving),
     Refused(Refusal),
 }
 
 // The line that a packet was for.
-#[derive(Drop)]
+#[derive(Clone, Copy)]
 pub enum ArriveAnswer {
     At(u8),
     Refused(Refusal),
 }
 
-#[derive(Drop)]
+#[derive(Clone, Copy)]
 pub struct Arrived {
     pub book: Book,
     pub answer: ArriveAnswer,

@@ -1,6 +1,8 @@
 // One line's record, by value: its settings, its modes, two sending and two receiving sides, and what it owes.
 // Here is what opening (RULES 7.3), closing (RULES 7.5) and a change of mode (RULES 9.12, RULES 9.14) make of it, what BOOK asks of
 // it, the figures that its calls go by (RULES 3.2, RULES 3.4), and where the slots lie in its part of the store (RULES 6.4). Relay calls are in `relay`, `writing` and `arriving`, books in `book`, octets in `store`, the order of refusals in `calls`.
+#![tactic(auto)]
+
 ghost use Rattle.std.specs.Prelude.{◌≡◌};
 ghost use Rattle.sending.specs.Sending.{sending_fits};
 ghost use Rattle.receiving.specs.Receiving.{receiving_fits};
@@ -18,7 +20,7 @@ use sending::Sending;
 use store::{Region, Way};
 
 // What opening names, besides the line and the time.
-#[derive(Drop)]
+#[derive(Clone, Copy)]
 pub struct Settings {
     // 0 to 127.
     pub identifier: u8,
@@ -31,7 +33,7 @@ pub struct Settings {
 }
 
 #[repr(C)]
-#[derive(Drop)]
+#[derive(Clone, Copy)]
 pub struct Line {
     // OPEN or CLOSED. Of a closed line nothing else is read.
     pub opened: u8,

@@ -1,6 +1,8 @@
 // The media modes of one line, by value: the record, the steps that it is changed by, and what a mode call gives.
 // It follows RULES 9.1 to RULES 9.14 and RULES 10.1 to RULES 10.12 (V.150.1, C.5.3 and C.5.4.1). What an indication, a request and a
 // tick make of the record is defined in specs/, and the laws of any sequence of them stand in proofs/; `moves` has the calls.
+#![tactic(auto)]
+
 ghost use Rattle.std.specs.Prelude.{◌≡◌};
 ghost use Rattle.mode.specs.Moved.{opened_modes, closed_modes, enters, leaves, channels_for, timed, left_by, moved, trying, stayed, ended};
 ghost use Rattle.mode.specs.Fit.{modes_fit};
@@ -9,7 +11,7 @@ use ground::Refusal;
 
 // What a line remembers of its media modes. A flag is 1 where it is so, and 0 where it is not.
 #[repr(C)]
-#[derive(Drop)]
+#[derive(Clone, Copy)]
 pub struct Modes {
     // VBD is offered, as opening named it.
     pub vbd: u8,
@@ -32,7 +34,7 @@ pub struct Modes {
 }
 
 // What a line must do with its channels after a mode call.
-#[derive(Drop)]
+#[derive(Clone, Copy)]
 pub enum Channels {
     // They stay.
     Stay,
@@ -43,7 +45,7 @@ pub enum Channels {
 }
 
 // What an indication heard is answered.
-#[derive(Drop)]
+#[derive(Clone, Copy)]
 pub enum HearAnswer {
     // The local mode, and whether a P' notice is to be sent.
     Mode(u8, bool),
@@ -51,7 +53,7 @@ pub enum HearAnswer {
 }
 
 // What a local request is answered.
-#[derive(Drop)]
+#[derive(Clone, Copy)]
 pub enum AskAnswer {
     // The local mode.
     Mode(u8),
@@ -59,7 +61,7 @@ pub enum AskAnswer {
 }
 
 // What a tick is answered.
-#[derive(Drop)]
+#[derive(Clone, Copy)]
 pub enum TickAnswer {
     // Nothing is due.
     Quiet,
@@ -71,21 +73,21 @@ pub enum TickAnswer {
 }
 
 // A call's outcome: its answer, the next modes, and what becomes of the channels.
-#[derive(Drop)]
+#[derive(Clone, Copy)]
 pub struct HearStep {
     pub answer: HearAnswer,
     pub modes: Modes,
     pub channels: Channels,
 }
 
-#[derive(Drop)]
+#[derive(Clone, Copy)]
 pub struct AskStep {
     pub answer: AskAnswer,
     pub modes: Modes,
     pub channels: Channels,
 }
 
-#[derive(Drop)]
+#[derive(Clone, Copy)]
 pub struct TickStep {
     pub answer: TickAnswer,
     pub modes: Modes,

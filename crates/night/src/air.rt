@@ -7,7 +7,7 @@ use gateway::ArriveAnswer;
 use ground::WriteAnswer;
 
 // A packet under way.
-#[derive(Drop)]
+#[derive(Clone, Copy)]
 pub struct Packet {
     // The stream that it was written for, and which packet of it this is, from 1; 0 where it is a repetition.
     stream: Stream,

@@ -1,7 +1,7 @@
 // The night's chance. A roll is worked out from the seed, the turn and what it is rolled for, so that one seed is one night.
 ghost use Rattle.std.specs.Prelude.{◌<◌};
 
-#[derive(Drop)]
+#[derive(Clone, Copy)]
 pub struct Dice {
     pub seed: u64,
     pub turn: u64,

@@ -1,6 +1,8 @@
 // A night at the garage. Four lines of a site dial in to its office; two gateways carry counts both ways on both channels, over a
 // link that loses, repeats and reorders packets. Line 1 hands out slowly, line 2 goes through recovery, and line 3 closes and
 // opens again while its first identifier rests. The night is worked out from a seed: `night SEED`, or one of its own.
+#![tactic(auto)]
+
 use dice::Dice;
 use story::Ends;
 use tally::Stream;

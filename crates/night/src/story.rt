@@ -9,7 +9,7 @@ use mode::{Modes, TickAnswer};
 use slip::Reading;
 
 // The two gateways' books.
-#[derive(Drop)]
+#[derive(Clone, Copy)]
 pub struct Ends {
     pub site: Book,
     pub office: Book,

@@ -1,6 +1,6 @@
 // What is counted of each stream: the messages that one end sends to the other on one channel of one line. There are 16. The counts
 // stand at the front of a ledger; behind them are the notes of the packets in the air.
-#[derive(Drop)]
+#[derive(Clone, Copy)]
 pub struct Stream {
     // The end that sends: 0 the site, 1 the office.
     pub end: u8,

@@ -1,5 +1,7 @@
 // The relay calls on a book of four lines by which messages go out: a message taken, a held message or an empty packet written, the
 // report of what is held (RULES section 5). They are calls of the library, and `gateway` passes them on.
+#![tactic(auto)]
+
 ghost use Rattle.std.specs.Prelude.{ℕ, ◌≡◌, List};
 ghost use Rattle.ground.specs.Answer.{write_says};
 ghost use Rattle.calls.specs.Call as call;
@@ -15,20 +17,20 @@ use writing::SendVerdict;
 mod verdicts; // verdicts.rt: what refuses them
 
 // The number that a message taken has, in the 14 bits of a packet.
-#[derive(Drop)]
+#[derive(Clone, Copy)]
 pub enum TakeAnswer {
     Number(u16),
     Refused(Refusal),
 }
 
-#[derive(Drop)]
+#[derive(Clone, Copy)]
 pub struct Taken {
     pub book: Book,
     pub answer: TakeAnswer,
 }
 
 // How many messages are held unacknowledged.
-#[derive(Drop)]
+#[derive(Clone, Copy)]
 pub enum HeldAnswer {
     Holds(u32),
     Refused(Refusal),

@@ -1,5 +1,7 @@
 // A line's owed acknowledgements, by value: one list for both channels (RULES 4.11), in order of entry (RULES 5.7).
 // An entry is a word of 16 bits, channel (2) and number (14), as a packet carries it. `writing` puts them into packets.
+#![tactic(auto)]
+
 ghost use Rattle.std.specs.Prelude.{◌≡◌, false, ◌≤◌, ◌<◌, get_or, take};
 ghost use Rattle.field.specs.Word.{word_of};
 ghost use Rattle.owed.specs.Owed.{fresh_owed, owed_of, member, entered, first_three, without_three, owed_fits, mark_of};
@@ -7,7 +9,7 @@ ghost use Rattle.owed.specs.Owed.{fresh_owed, owed_of, member, entered, first_th
 use packet::Acks;
 
 #[repr(C)]
-#[derive(Drop)]
+#[derive(Clone, Copy)]
 pub struct Owed {
     // The entries there are, oldest first; what stands after them is not read.
     pub numbers: [u16; 64],

@@ -1,5 +1,7 @@
 // A relay packet, after V.150.1 Annex B (RULES 2.1 to RULES 2.8): what its octets say. One is written in write.rt.
 // Lines, windows and modes are not known here: NOLINE, TYPE and MODE stand between reading the head and reading the list (RULES 14.2).
+#![tactic(auto)]
+
 ghost use Rattle.std.specs.Prelude.{◌≡◌, ◌+◌, ◌*◌, ◌<◌};
 ghost use Rattle.ground.specs.Refusal.{verdict};
 ghost use Rattle.ground.specs.Answer.{Gives};
@@ -13,7 +15,7 @@ mod write; // write.rt: a packet written
 pub use write::write_packet;
 
 // What a packet says before its list of acknowledgements. What is not looked at is 0.
-#[derive(Drop)]
+#[derive(Clone, Copy)]
 pub struct Head {
     // 0 to 127: it finds the line.
     pub identifier: u8,
@@ -29,7 +31,7 @@ pub struct Head {
 
 // The acknowledgements, at most three. Each is a word as it is sent: its channel (2 bits) and its number (14).
 // A word at or past the count is 0.
-#[derive(Drop)]
+#[derive(Clone, Copy)]
 pub struct Acks {
     pub count: u8,
     pub one: u16,
@@ -52,14 +54,14 @@ impl Acks {
 }
 
 // What the first six octets say, or why they say nothing.
-#[derive(Drop)]
+#[derive(Clone, Copy)]
 pub enum HeadReading {
     Says(Head),
     Refused(Refusal),
 }
 
 // What the list after them says, or why it says nothing.
-#[derive(Drop)]
+#[derive(Clone, Copy)]
 pub enum AcksReading {
     Says(Acks),
     Refused(Refusal),

@@ -1,18 +1,20 @@
 // A set of offsets as a mask: offset i is in it where bit i is set. Offsets count from the oldest message, so that moving on is a shift. With
 // the place of the oldest message an offset gives a message's place in its window (`channel::place`), and the types are called after these places.
 // Contracts speak of the mask as a number: a window over 32 needs more words in the struct, and nothing above.
+#![tactic(auto)]
+
 ghost use Rattle.std.specs.Prelude.{◌≡◌, ◌/◌, ◌^◌, ◌<◌, eqb};
 ghost use Rattle.places.specs.Places.{mask_of, set_of, widest, bit_of, with_bit, without_bit, within, count_of, rank_of};
 
 #[repr(C)]
-#[derive(Drop)]
+#[derive(Clone, Copy)]
 pub struct Places {
     // Bit i stands for offset i.
     pub bits: u32,
 }
 
 // What a search for an offset finds: the offset, or that there is none.
-#[derive(Drop)]
+#[derive(Clone, Copy)]
 pub enum Place {
     At(u32),
     Missing,

@@ -1,6 +1,8 @@
 // The receiving side of a channel, by value: the next message to hand out (RULES 5.8), what is stored (RULES 4.7) and where it lies
 // (RULES 6.5). The window and the largest message are parameters.
 // It says what becomes of a number that arrives, and when handing out is refused as SPENT or NOTHING.
+#![tactic(auto)]
+
 ghost use Rattle.std.specs.Prelude.{◌≡◌, ◌≤◌, ◌<◌};
 ghost use Rattle.ground.specs.Refusal.{verdict};
 ghost use Rattle.channel.specs.Channel.{cap};
@@ -12,7 +14,7 @@ use ground::{Refusal, Verdict};
 use places::Places;
 
 #[repr(C)]
-#[derive(Drop)]
+#[derive(Clone, Copy)]
 pub struct Receiving {
     // R: the next message to hand out, and how many were handed out. At most 16,777,215.
     pub next: u32,
@@ -25,7 +27,7 @@ pub struct Receiving {
 }
 
 // What becomes of a number that arrives with a payload.
-#[derive(Drop)]
+#[derive(Clone, Copy)]
 pub enum Arrival {
     // It is stored, this far past R.
     Stored(u32),

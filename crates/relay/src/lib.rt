@@ -1,6 +1,8 @@
 // What taking, handing out and the report refuse (RULES 14.3, RULES 14.5, RULES 14.7), and what they do to one line and to its
 // part of the store (RULES 5.1, RULES 5.8, RULES 5.10). Each call is a verdict, worked out first, and an effect, made only where the verdict
 // lets it pass. The verdicts of taking and handing out ask that the line meets what BOOK asks; `calls` tests the book and the store's length before that.
+#![tactic(auto)]
+
 ghost use Rattle.std.specs.Prelude.{◌≡◌, true, ◌≤◌, ◌<◌, ◌++◌, length, drop};
 ghost use Rattle.ground.specs.Refusal.{verdict};
 ghost use Rattle.ground.specs.declared.Verdict.TheVariants.{Pass};

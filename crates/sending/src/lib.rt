@@ -1,6 +1,8 @@
 // The sending side of a channel, by value: what was taken (RULES 5.1), the last base heard (RULES 4.3), what is held unacknowledged
 // (RULES 4.5, RULES 5.3) and where it lies (RULES 6.5). The window and the largest message are parameters.
 // It says when taking is refused as SPENT or FULL; the other refusals of taking are in `relay`, and the octets in `store`.
+#![tactic(auto)]
+
 ghost use Rattle.std.specs.Prelude.{◌≡◌, ◌-◌, ◌≤◌, ◌<◌};
 ghost use Rattle.ground.specs.Refusal.{verdict};
 ghost use Rattle.channel.specs.Channel.{cap};
@@ -12,7 +14,7 @@ use ground::{Refusal, Verdict};
 use places::{Place, Places};
 
 #[repr(C)]
-#[derive(Drop)]
+#[derive(Clone, Copy)]
 pub struct Sending {
     // S: how many messages were taken. At most 16,777,215.
     pub taken: u32,
@@ -27,14 +29,14 @@ pub struct Sending {
 }
 
 // The side once an acknowledgement has been heard, and whether that named a message held unacknowledged.
-#[derive(Drop)]
+#[derive(Clone, Copy)]
 pub struct Acknowledged {
     pub side: Sending,
     pub named: bool,
 }
 
 // A held message: its full number, the place where it lies and its size.
-#[derive(Drop)]
+#[derive(Clone, Copy)]
 pub struct Held {
     pub number: u32,
     pub place: u32,
@@ -42,7 +44,7 @@ pub struct Held {
 }
 
 // What a rank finds: the held message, or that none has it.
-#[derive(Drop)]
+#[derive(Clone, Copy)]
 pub enum Ranked {
     Is(Held),
     Nothing,

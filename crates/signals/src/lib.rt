@@ -1,5 +1,7 @@
 // The mode calls on a book of four lines: an indication heard, a request, a tick (RULES 9.3, RULES 10.1). They are calls of the
 // library, and `gateway` passes them on.
+#![tactic(auto)]
+
 ghost use Rattle.std.specs.Prelude.{ℕ, ◌≡◌, List};
 ghost use Rattle.mode.specs.Acts as act;
 ghost use Rattle.mode.specs.Says.{hear_says, ask_says, tick_says};
@@ -11,19 +13,19 @@ use book::Book;
 use ground::Verdict;
 use mode::{AskAnswer, HearAnswer, TickAnswer};
 
-#[derive(Drop)]
+#[derive(Clone, Copy)]
 pub struct Heard {
     pub book: Book,
     pub answer: HearAnswer,
 }
 
-#[derive(Drop)]
+#[derive(Clone, Copy)]
 pub struct Asked {
     pub book: Book,
     pub answer: AskAnswer,
 }
 
-#[derive(Drop)]
+#[derive(Clone, Copy)]
 pub struct Ticked {
     pub book: Book,
     pub answer: TickAnswer,

@@ -1,4 +1,6 @@
 // The slip of a closed line: RULES section 8. Form 1 has 12 octets, read and written.
+#![tactic(auto)]
+
 ghost use Rattle.std.specs.Prelude.{◌≡◌, length, true};
 ghost use Rattle.std.proofs.lemmas.List.Edits.{sets};
 ghost use Rattle.ground.specs.Refusal.{verdict};
@@ -7,7 +9,7 @@ ghost use Rattle.slip.specs.Slip.{slip_at, slip_fits, form_fits, slip_octets, an
 
 use ground::{Refusal, Verdict, WriteAnswer};
 
-#[derive(Drop)]
+#[derive(Clone, Copy)]
 pub struct Slip {
     // 0 to 127.
     pub identifier: u8,
@@ -33,7 +35,7 @@ impl Slip {
 }
 
 // What a slip says, or why it says nothing.
-#[derive(Drop)]
+#[derive(Clone, Copy)]
 pub enum Reading {
     Says(Slip),
     Refused(Refusal),

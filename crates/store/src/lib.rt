@@ -1,18 +1,20 @@
 // Where message octets lie (RULES 6.4), and how they are put there and copied out. A line has a part of the one lent store. A region is
 // the slots of one way and one channel in that part: where it starts, and how large a slot is. What lies in a slot, and for how long, is
 // said by the record of the side that owns it; how many slots there are, by the line; where a line's part lies, by the book.
+#![tactic(auto)]
+
 ghost use Rattle.std.specs.Prelude.{◌≡◌, ◌++◌, ◌+◌, ◌*◌, ◌^◌, ◌≤◌, ◌<◌, length, drop};
 ghost use Rattle.std.proofs.lemmas.List.Edits.{sets};
 ghost use Rattle.store.specs.Store.{region_from, slot_at, SlotIn, octets_in};
 
 // The way that messages go: taken for sending, or stored as they arrive.
-#[derive(Drop)]
+#[derive(Clone, Copy)]
 pub enum Way {
     Sending,
     Receiving,
 }
 
-#[derive(Drop)]
+#[derive(Clone, Copy)]
 pub struct Region {
     // The octet of the line's part that the first slot begins at.
     pub start: usize,

@@ -74,7 +74,7 @@ pub fn listed(out: &mut [u8], at: usize, texts: &[u8], i: u8) -> usize {
 }
 
 // Up to 18 numbers of an answer.
-#[derive(Drop)]
+#[derive(Clone, Copy)]
 pub struct Numbers {
     pub values: [u64; 18],
     pub count: usize,

@@ -21,7 +21,7 @@ pub const EXTRA: u8 = 3;
 
 pub const WRONG: u8 = 4;
 
-#[derive(Drop)]
+#[derive(Clone, Copy)]
 pub struct Arguments {
     // GOOD: every word is what was asked for, none is missing and none too many. Otherwise the first thing that is wrong.
     pub fault: u8,
@@ -202,7 +202,7 @@ pub fn read(s: &[u8], at: usize, letters: &[u8], out: &mut [u8]) -> Arguments
 }
 
 // A call of a table: its place there, and where its letters lie.
-#[derive(Drop)]
+#[derive(Clone, Copy)]
 struct Entry {
     place: u8,
     from: usize,

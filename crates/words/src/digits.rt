@@ -3,7 +3,7 @@ ghost use Rattle.std.specs.Prelude.{◌≡◌, ◌≤◌};
 ghost use Rattle.words.specs.Digits.{hex_digit, upper_digit, longer_by, number_of};
 
 // What a word says as a number, or that it says none.
-#[derive(Drop)]
+#[derive(Clone, Copy)]
 pub enum Number {
     Says(u64),
     Nothing,

@@ -1,5 +1,7 @@
 // The words of one line of a script: where each lies, and the numbers, modes and octets that they say. Which calls there are, and
 // which words each of them asks for, is said by `desk`.
+#![tactic(auto)]
+
 ghost use Rattle.std.specs.Prelude.{◌≤◌, length};
 ghost use Rattle.words.specs.Words.{Within};
 
@@ -12,14 +14,14 @@ pub use arguments::{Arguments, UNKNOWN, call, read};
 pub use digits::{Number, read_number};
 
 // A word of a line: where its first octet lies, and the place after its last. Where no word is left, both are the line's end.
-#[derive(Drop)]
+#[derive(Clone, Copy)]
 pub struct Word {
     pub from: usize,
     pub to: usize,
 }
 
 // How many octets a word says, or that it says none.
-#[derive(Drop)]
+#[derive(Clone, Copy)]
 pub enum Octets {
     Says(usize),
     Nothing,

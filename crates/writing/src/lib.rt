@@ -1,6 +1,8 @@
 // What a line writes: what all its packets have in common (RULES 5.5), and those without a message (RULES 5.6, RULES 14.6). The call is
 // a verdict, worked out first, and an effect, made only where the verdict lets it pass. Every packet carries acknowledgements that the
 // line owes, at most three, and they leave its list (RULES 5.7). Packets with a message stand in held.rt.
+#![tactic(auto)]
+
 ghost use Rattle.std.specs.Prelude.{◌≡◌, true, ◌≤◌, ◌++◌, length, drop};
 ghost use Rattle.ground.specs.Refusal.{verdict};
 ghost use Rattle.ground.specs.declared.Verdict.TheVariants.{Pass};
@@ -19,14 +21,14 @@ mod held; // held.rt: a held message written
 pub use held::{may_send, send};
 
 // What a call that writes a packet leaves: the line, and how many octets were written.
-#[derive(Drop)]
+#[derive(Clone, Copy)]
 pub struct WriteStep {
     pub line: Line,
     pub answer: WriteAnswer,
 }
 
 // The held message that may be written, or why none may.
-#[derive(Drop)]
+#[derive(Clone, Copy)]
 pub enum SendVerdict {
     Message(Held),
     Refused(Refusal),

@@ -1,0 +1,6 @@
+use Rattle.field.proofs.Laws.{top_of}
+use borrow.Author.Rules.{rules}
+use Rattle.packet.proofs.channel_at.Goals as goal
+
+pub returns : goal.returns
+returns c = top_of c.args.s.now 16 2 14 c.word_at.ensures

@@ -1,0 +1,17 @@
+use mathlib.Core.Path.{refl}
+use lib.ListN.{length}
+use Rattle.ground.proofs.Verdicts.{writes_not}
+use Rattle.packet.specs.Write.{write_tests, packet_octets}
+use Rattle.packet.proofs.Writes.{write_room, write_done}
+use borrow.Author.Rules.{rules}
+use Rattle.packet.proofs.write.write_packet.Goals as goal
+
+pub put_header-n-requires : goal.put_header-n-requires
+put_header-n-requires c =
+    let at = c.args in
+    write_room at.h at.a at.payload.now at.largest at.out.now (c.write_verdict.ensures at.payload.now refl) c.in-Pass.is
+
+pub returns-in-Pass : goal.returns-in-Pass
+returns-in-Pass c =
+    let at = c.args in
+    write_done at.h at.a at.payload.now at.largest at.out.now (c.write_verdict.ensures at.payload.now refl) c.in-Pass.is c.put_header-n.ensures.0 c.put_header-n.ensures.1 c.put_octets.ensures
