@@ -26,6 +26,7 @@ first_stays_new [] x v = v
 first_stays_new (a ∷ y) x v = tt
 
 pub first_stays_old : (y x : Message) → Full y → first_stays y x ≡ y
+first_stays_old [] x v = elim v [ ]
 first_stays_old (a ∷ y) x v = refl
 
 -- a payload stays the message of its number when more are taken

@@ -1,23 +1,24 @@
 use borrow.Author.Rules.{rules}
-use borrow.Author.Tests.{not-true, not-false}
+use borrow.Author.Tests.{not-true}
 use native.Mathlib.Omega.{arith}
 use Prim.Native.Nat.{ℕ, ◌≤◌, ◌<◌, ◌-◌, ◌/◌, ◌^◌}
 use mathlib.Core.Bool.{Bool, true, false, not}
 use mathlib.Core.List.{List}
 use native.Mathlib.Decide.{dec_lt}
 use mathlib.Core.Path.{◌≡◌, sym, ap, ◌∙◌}
-use mathlib.Core.Logic.{⊎_elim}
 use lib.Dec.{eqb}
 use lib.ListN.{get_or}
 use Rattle.channel.specs.Distance.{place_of}
 use Rattle.ground.proofs.Every.{every_all, every_not, below_suc}
 use Rattle.places.specs.Places.{mask_of, bit_of}
+use Rattle.places.specs.declared.Places.{Places}
 use Rattle.channel.specs.Sizes.{message_fits, size_at, sizes_fit}
 use Rattle.channel.proofs.Distances.{place_lt}
 use Rattle.places.proofs.Bits.{bit_past}
 use Rattle.places.proofs.Masks.{mask_is}
 use Rattle.places.proofs.Walks.{walk_begins, walk_at, walk_on, walk_below, walk_ends}
 use Rattle.channel.proofs.sizes.sizes_fit.Goals as goal
+use Rattle.channel.proofs.sizes.sizes_fit.Goals.{then-has+else-not-size_fits, else-has}
 
 module _ (w z : ℕ) (sizes : List ℕ) (m origin i : ℕ) where
   -- a place of the set, whose size was looked at, and one that is not in the set
@@ -37,11 +38,8 @@ all_met w z sizes m origin i h f j = go (dec_lt j i)
     go (no q) = unmet w z sizes m origin j (bit_past m i j h (omega arith))
 
 -- in the loop's body place i is one of the window's
-at_loop : (c : tie.After-empty invariant-loop decreases-loop) → not c.empty.result ≡ true → c.before.loop.i < c.before.before.args.window
-at_loop c t =
-    let l = c.before.loop in
-    let a = c.before.before.args in
-    walk_below (mask_of a.set) l.i (mask_of l.rest) l.invariant.1 a.window c.before.before.requires.2 (ap not (sym c.empty.ensures) ∙ t)
+at_loop : (set rest : Places) (i w : ℕ) (r : Bool) → mask_of rest ≡ mask_of set / 2 ^ i → mask_of set < 2 ^ w → r ≡ eqb (mask_of rest) 0 → r ≡ false → i < w
+at_loop set rest i w r e h s t = walk_below (mask_of set) i (mask_of rest) e w h (ap not (sym s ∙ t))
 
 pub returns-then-not-size_fits : goal.returns-then-not-size_fits
 unfolding sizes_fit
@@ -50,12 +48,12 @@ returns-then-not-size_fits c =
     let l = c.loop-sizes in
     let b = sym (walk_at (mask_of a.set) l.i (mask_of l.rest) l.invariant.1) ∙ sym c.has.ensures
     ∙ c.if-has.true in
-    sym (every_not (size_at a.window a.largest a.t1 (mask_of a.set) a.origin) a.window l.i (at_loop c {- place After-empty -} (ap not c.loop-sizes-test.true))
-    (met a.window a.largest a.t1 (mask_of a.set) a.origin l.i b c.place-at.ensures
+    sym (every_not (size_at a.window a.largest a.sizes (mask_of a.set) a.origin) a.window l.i (at_loop c.args.set c.loop-sizes.rest c.loop-sizes.i c.args.window _ c.loop-sizes.invariant.1 c.requires.2 c.empty.ensures c.loop-sizes-test.true)
+    (met a.window a.largest a.sizes (mask_of a.set) a.origin l.i b c.place-at.ensures
     c.size_fits.ensures ∙ not-true _ (ap not c.if-not-size_fits.true)))
 
 pub loop-sizes-smaller : goal.loop-sizes-smaller
-loop-sizes-smaller c = omega (arith, at_loop c {- place After-empty -} (ap not c.loop-sizes-test.true))
+loop-sizes-smaller c = omega (arith, at_loop c.args.set c.loop-sizes.rest c.loop-sizes.i c.args.window _ c.loop-sizes.invariant.1 c.requires.2 c.empty.ensures c.loop-sizes-test.true)
 
 pub loop-sizes-preserved : goal.loop-sizes-preserved
 loop-sizes-preserved c =
@@ -63,12 +61,12 @@ loop-sizes-preserved c =
     let l = c.loop-sizes in
     let m = mask_of a.set in
     let b = sym (walk_at m l.i (mask_of l.rest) l.invariant.1) ∙ sym c.has.ensures in (
-      omega (arith, at_loop c {- place After-empty -} (ap not c.loop-sizes-test.true)),
+      omega (arith, at_loop c.args.set c.loop-sizes.rest c.loop-sizes.i c.args.window _ c.loop-sizes.invariant.1 c.requires.2 c.empty.ensures c.loop-sizes-test.true),
       mask_is _ c.dropped-rest.ensures ∙ walk_on m l.i (mask_of l.rest) l.invariant.1,
-      λ j q. below_suc (λ k. size_at a.window a.largest a.t1 m a.origin k ≡ true) l.i l.invariant.2
-          (⊎_elim (λ w. met a.window a.largest a.t1 m a.origin l.i (b ∙ w.0.taken) w.1.ensures w.2.ensures
-          ∙ not-false _ w.3.left)
-          (λ w. unmet a.window a.largest a.t1 m a.origin l.i (b ∙ w.left)) c.if-has.branch) j (omega arith),
+      λ j q. below_suc (λ k. size_at a.window a.largest a.sizes m a.origin k ≡ true) l.i l.invariant.2 (elim c.if-has.branch [
+        then-has+else-not-size_fits w ↦ met a.window a.largest a.sizes m a.origin l.i (b ∙ w.if-has.true) w.place-at.ensures w.size_fits.ensures ∙ w.if-not-size_fits.false
+      | else-has w ↦ unmet a.window a.largest a.sizes m a.origin l.i (b ∙ w.if-has.false)
+      ]) j (omega arith),
     )
 
 pub returns : goal.returns
@@ -77,7 +75,7 @@ returns c =
     let a = c.args in
     let l = c.loop-sizes in
     let m = mask_of a.set in
-    let e : not (eqb (mask_of l.rest) 0) ≡ false = ap not (sym c.empty.ensures) ∙ (ap not c.loop-sizes-test.false) in
+    let e : not (eqb (mask_of l.rest) 0) ≡ false = ap not (sym c.empty.ensures ∙ c.loop-sizes-test.false) in
     let h = walk_ends m l.i (mask_of l.rest) l.invariant.1 e in
-    sym (every_all (size_at a.window a.largest a.t1 m a.origin) a.window
-    (λ j q. all_met a.window a.largest a.t1 m a.origin l.i h l.invariant.2 j))
+    sym (every_all (size_at a.window a.largest a.sizes m a.origin) a.window
+    (λ j q. all_met a.window a.largest a.sizes m a.origin l.i h l.invariant.2 j))

@@ -1,0 +1,22 @@
+use Rattle.line.specs.Line.{line_with}
+use Rattle.line.specs.Mode.{stepped_to}
+use borrow.Author.Rules.{rules}
+use Rattle.line.proofs.Line.stepped.Goals as goal
+
+pub returns-in-Stay : goal.returns-in-Stay
+unfolding stepped_to
+returns-in-Stay c = rw c.in-Stay.is
+
+pub returns-in-Fresh : goal.returns-in-Fresh
+unfolding stepped_to
+returns-in-Fresh c =
+    let l = c.args.self in
+    rw c.in-Fresh.is
+    (λ i. line_with l.opened l.identifier l.kind c.args.modes (c.fresh-sending.ensures i) (c.fresh-sending.ensures i) (c.fresh-receiving.ensures i) (c.fresh-receiving.ensures i) (c.fresh-owed.ensures i))
+
+pub returns-in-Emptied : goal.returns-in-Emptied
+unfolding stepped_to
+returns-in-Emptied c =
+    let l = c.args.self in
+    rw c.in-Emptied.is
+    (λ i. line_with l.opened l.identifier l.kind c.args.modes (c.emptied-sending1.ensures i) (c.emptied-sending2.ensures i) (c.emptied-receiving1.ensures i) (c.emptied-receiving2.ensures i) (c.fresh-owed-in-Emptied.ensures i))

@@ -1,0 +1,10 @@
+use borrow.Author.Rules.{rules}
+use native.Mathlib.Omega.{arith}
+use Prim.Native.Nat.{◌-◌}
+use Rattle.channel.proofs.Distances.{place_lt}
+use Rattle.sending.specs.Sending.{took_one}
+use Rattle.sending.proofs.Sending.took.Goals as goal
+
+pub returns : goal.returns
+unfolding took_one
+returns c = simp (c.with-next.ensures, c.next_place-at.ensures)
