@@ -1,0 +1,9 @@
+use Rattle.writing.specs.Write.{wrote_line}
+use borrow.Author.Rules.{rules}
+use Rattle.writing.proofs.wrote_line.Goals as goal
+
+pub returns : goal.returns
+unfolding wrote_line
+returns c =
+    let l = c.args.l in
+    λ i. record { opened = l.opened; identifier = l.identifier; kind = l.kind; modes = l.modes; sending1 = l.sending1; sending2 = l.sending2; receiving1 = l.receiving1; receiving2 = l.receiving2; owed = c.without_three-owed.ensures i }
