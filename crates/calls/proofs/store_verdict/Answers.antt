@@ -1,0 +1,12 @@
+use Rattle.book.proofs.Parts.{store_length_lem}
+use borrow.Author.Tests.{le-leb, lt-leb, not-true, not-false}
+use borrow.Author.Rules.{rules}
+use mathlib.Core.Path.{ap}
+use mathlib.Core.Bool.{not}
+use Rattle.calls.proofs.store_verdict.Goals as goal
+
+pub returns-then-store-ge-STORE : goal.returns-then-store-ge-STORE
+returns-then-store-ge-STORE c = simp (← c.fits.ensures, not-false c.fits.result (ap not c.if-not-fits.false), store_length_lem c.args.book, le-leb _ _ c.if-store-ge-STORE.true)
+
+pub returns-else-store-ge-STORE : goal.returns-else-store-ge-STORE
+returns-else-store-ge-STORE c = simp (← c.fits.ensures, not-false c.fits.result (ap not c.if-not-fits.false), store_length_lem c.args.book, lt-leb _ _ c.if-store-ge-STORE.false)

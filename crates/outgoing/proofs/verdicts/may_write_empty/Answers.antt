@@ -1,0 +1,21 @@
+use Rattle.calls.proofs.FirstTests.{on_line}
+use Rattle.calls.specs.Stages.{fit_book, line_number}
+use Rattle.book.specs.Book.{line_of}
+use Rattle.writing.specs.Write.{empty_tests}
+use Rattle.line.specs.declared.Line.{Line}
+use Rattle.calls.proofs.OrderStages.{empty_stages}
+use Rattle.calls.proofs.Stops.{stops, goes_on}
+use Rattle.ground.specs.Refusal.{verdict}
+use mathlib.Core.List.{[], ◌∷◌}
+use mathlib.Core.Path.{sym, ap, ◌∙◌}
+use borrow.Author.Rules.{rules}
+use Rattle.outgoing.proofs.verdicts.may_write_empty.Goals as goal
+
+pub returns-in-Refuse : goal.returns-in-Refuse
+returns-in-Refuse c = let a = c.args in stops (fit_book a.book ∷ line_number a.line ∷ []) (empty_tests (line_of a.book a.line) a.channel a.space) (empty_stages a.book a.line a.channel a.space) c.line_verdict-earlier.ensures c.in-Refuse.is
+
+pub returns-in-Pass : goal.returns-in-Pass
+returns-in-Pass c =
+    let a = c.args in
+    goes_on (fit_book a.book ∷ line_number a.line ∷ []) (empty_tests (line_of a.book a.line) a.channel a.space) (empty_stages a.book a.line a.channel a.space) c.line_verdict-earlier.ensures c.in-Pass.is
+    (c.may_write_empty.ensures ∙ ap (λ (l : Line). verdict (empty_tests l a.channel a.space)) c.line.ensures)
