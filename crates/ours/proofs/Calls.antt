@@ -1,5 +1,5 @@
 -- The calls of `ours` are those of the code: for whatever it is handed, what a call of the face answers and leaves is what `ours` does. Where a call is
--- lent no store or no output, this holds of any, which stay. `open.Reads.Learnt` is the contract of `gateway::open` in src/, as the check reads it; so of
+-- lent no store or no output, this holds of any, which stay. `open_reads.Learnt` is the contract of `gateway::open` in src/, as the check reads it; so of
 -- the others. In a statement a has the arguments, x is what is returned, and p what is left behind each reference.
 -- Assumes nothing.
 use Prim.Native.Nat.{ℕ}
@@ -14,71 +14,83 @@ use Rattle.calls.specs.Result.{result_with}
 use Rattle.outgoing.specs.Says.{take_says, held_says}
 use Rattle.incoming.specs.Says.{arrive_says}
 use Rattle.gateway.specs.Says.{open_says}
-use Rattle.gateway.proofs.fresh
-use Rattle.gateway.proofs.open
-use Rattle.gateway.proofs.close
-use Rattle.gateway.proofs.hear
-use Rattle.gateway.proofs.ask
-use Rattle.gateway.proofs.tick
-use Rattle.gateway.proofs.take
-use Rattle.gateway.proofs.send
-use Rattle.gateway.proofs.empty
-use Rattle.gateway.proofs.held
-use Rattle.gateway.proofs.arrive
-use Rattle.gateway.proofs.hand_out
+use Rattle.gateway.specs.contracts.fresh
+use Rattle.gateway.proofs.fresh.Reads as fresh_reads
+use Rattle.gateway.specs.contracts.open
+use Rattle.gateway.proofs.open.Reads as open_reads
+use Rattle.gateway.specs.contracts.close
+use Rattle.gateway.proofs.close.Reads as close_reads
+use Rattle.gateway.specs.contracts.hear
+use Rattle.gateway.proofs.hear.Reads as hear_reads
+use Rattle.gateway.specs.contracts.ask
+use Rattle.gateway.proofs.ask.Reads as ask_reads
+use Rattle.gateway.specs.contracts.tick
+use Rattle.gateway.proofs.tick.Reads as tick_reads
+use Rattle.gateway.specs.contracts.take
+use Rattle.gateway.proofs.take.Reads as take_reads
+use Rattle.gateway.specs.contracts.send
+use Rattle.gateway.proofs.send.Reads as send_reads
+use Rattle.gateway.specs.contracts.empty
+use Rattle.gateway.proofs.empty.Reads as empty_reads
+use Rattle.gateway.specs.contracts.held
+use Rattle.gateway.proofs.held.Reads as held_reads
+use Rattle.gateway.specs.contracts.arrive
+use Rattle.gateway.proofs.arrive.Reads as arrive_reads
+use Rattle.gateway.specs.contracts.hand_out
+use Rattle.gateway.proofs.hand_out.Reads as hand_out_reads
 use Rattle.laws.specs.Contract.{Promises}
 use Rattle.promise.specs.Build.{ours}
 
 -- a gateway begins with a fresh book
-pub fresh_ours : Promises fresh.ended fresh.Reads.Learnt (λ κs a x p. x ≡ fresh_book)
+pub fresh_ours : Promises fresh.ended fresh_reads.Learnt (λ κs a x p. x ≡ fresh_book)
 fresh_ours κs a x p m = m
 
 -- opening and closing
-pub open_ours : Promises open.ended open.Reads.Learnt (λ κs a x p. (store out : List ℕ)
+pub open_ours : Promises open.ended open_reads.Learnt (λ κs a x p. (store out : List ℕ)
     → result_with (open_says x.answer) x.book store out ≡ ours.does (call.opening a.1.0 a.1.1.0 a.1.1.1.0) a.0 store out)
 open_ours κs a x p m = m
 
-pub close_ours : Promises close.ended close.Reads.Learnt (λ κs a x p. (store : List ℕ)
+pub close_ours : Promises close.ended close_reads.Learnt (λ κs a x p. (store : List ℕ)
     → result_with (write_says x.answer) x.book store p.1.1.0 ≡ ours.does (call.closing a.1.0) a.0 store a.1.1.0.now)
 close_ours κs a x p m = m
 
 -- the mode calls
-pub hear_ours : Promises hear.ended hear.Reads.Learnt (λ κs a x p. (store out : List ℕ)
+pub hear_ours : Promises hear.ended hear_reads.Learnt (λ κs a x p. (store out : List ℕ)
     → result_with (hear_says x.answer) x.book store out ≡ ours.does (call.mode a.1.0 (act.hear a.1.1.0 a.1.1.1.0)) a.0 store out)
 hear_ours κs a x p m = m
 
-pub ask_ours : Promises ask.ended ask.Reads.Learnt (λ κs a x p. (store out : List ℕ)
+pub ask_ours : Promises ask.ended ask_reads.Learnt (λ κs a x p. (store out : List ℕ)
     → result_with (ask_says x.answer) x.book store out ≡ ours.does (call.mode a.1.0 (act.ask a.1.1.0 a.1.1.1.0)) a.0 store out)
 ask_ours κs a x p m = m
 
-pub tick_ours : Promises tick.ended tick.Reads.Learnt (λ κs a x p. (store out : List ℕ)
+pub tick_ours : Promises tick.ended tick_reads.Learnt (λ κs a x p. (store out : List ℕ)
     → result_with (tick_says x.answer) x.book store out ≡ ours.does (call.mode a.1.0 (act.tick a.1.1.0)) a.0 store out)
 tick_ours κs a x p m = m.0
 
 -- messages going out
-pub take_ours : Promises take.ended take.Reads.Learnt (λ κs a x p. (out : List ℕ)
+pub take_ours : Promises take.ended take_reads.Learnt (λ κs a x p. (out : List ℕ)
     → result_with (take_says x.answer) x.book p.1.0 out ≡ ours.does (call.taking a.1.1.0 a.1.1.1.0 a.1.1.1.1.0.now) a.0 a.1.0.now out)
 take_ours κs a x p m = m
 
-pub send_ours : Promises send.ended send.Reads.Learnt (λ κs a x p.
+pub send_ours : Promises send.ended send_reads.Learnt (λ κs a x p.
     result_with (write_says x.answer) x.book a.1.0.now p.1.1.1.1.1.0
     ≡ ours.does (call.sending a.1.1.0 a.1.1.1.0 a.1.1.1.1.0) a.0 a.1.0.now a.1.1.1.1.1.0.now)
 send_ours κs a x p m = m
 
-pub empty_ours : Promises empty.ended empty.Reads.Learnt (λ κs a x p. (store : List ℕ)
+pub empty_ours : Promises empty.ended empty_reads.Learnt (λ κs a x p. (store : List ℕ)
     → result_with (write_says x.answer) x.book store p.1.1.1.0 ≡ ours.does (call.empty a.1.0 a.1.1.0) a.0 store a.1.1.1.0.now)
 empty_ours κs a x p m = m
 
-pub held_ours : Promises held.ended held.Reads.Learnt (λ κs a x p. (store out : List ℕ)
+pub held_ours : Promises held.ended held_reads.Learnt (λ κs a x p. (store out : List ℕ)
     → result_with (held_says x) a.0 store out ≡ ours.does (call.report a.1.0 a.1.1.0) a.0 store out)
 held_ours κs a x p m = m
 
 -- messages coming in
-pub arrive_ours : Promises arrive.ended arrive.Reads.Learnt (λ κs a x p. (out : List ℕ)
+pub arrive_ours : Promises arrive.ended arrive_reads.Learnt (λ κs a x p. (out : List ℕ)
     → result_with (arrive_says x.answer) x.book p.1.0 out ≡ ours.does (call.arrival a.1.1.0.now) a.0 a.1.0.now out)
 arrive_ours κs a x p m = m
 
-pub hand_out_ours : Promises hand_out.ended hand_out.Reads.Learnt (λ κs a x p.
+pub hand_out_ours : Promises hand_out.ended hand_out_reads.Learnt (λ κs a x p.
     result_with (write_says x.answer) x.book a.1.0.now p.1.1.1.1.0
     ≡ ours.does (call.hand_out a.1.1.0 a.1.1.1.0) a.0 a.1.0.now a.1.1.1.1.0.now)
 hand_out_ours κs a x p m = m
