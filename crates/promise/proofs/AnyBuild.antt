@@ -11,19 +11,19 @@ use Rattle.promise.specs.Run.{Gateway, Adds, refused, elsewhere, moded, reported
 use Rattle.promise.specs.Promise.{InRelay}
 
 module _ {f : Does} {within i j identifier kind : ℕ} where
-  pub turned_goes : {g g' h h' : Gateway} {p p' q q' : Past} → Goes f within i j identifier kind g p h q g' p' h' q' → Goes f within j i identifier kind h q g p h' q' g' p'
+  pub turned_goes : {g h : Gateway} {p q : Past} {g' h' : Gateway} {p' q' : Past} → Goes f within i j identifier kind g p h q g' p' h' q' → Goes f within j i identifier kind h q g p h' q' g' p'
   turned_goes stay = stay
   turned_goes (here w s) = there (turned_goes w) s
   turned_goes (there w s) = here (turned_goes w) s
 
-  pub goes_after : {g g' g'' h h' h'' : Gateway} {p p' p'' q q' q'' : Past} → Goes f within i j identifier kind g p h q g' p' h' q' → Goes f within i j identifier kind g' p' h' q' g'' p'' h'' q''
+  pub goes_after : {g g' h h' : Gateway} {p p' q q' : Past} {g'' h'' : Gateway} {p'' q'' : Past} → Goes f within i j identifier kind g p h q g' p' h' q' → Goes f within i j identifier kind g' p' h' q' g'' p'' h'' q''
       → Goes f within i j identifier kind g p h q g'' p'' h'' q''
   goes_after a stay = a
   goes_after a (here w s) = here (goes_after a w) s
   goes_after a (there w s) = there (goes_after a w) s
 
 -- what a call adds leaves the line open
-adds_open : {f : Does} {within i : ℕ} {g : Gateway} {p q p' : Past} {out : List ℕ} {c : Call} → Adds f within i g p q out c p' → p'.opened ≡ p.opened
+adds_open : {f : Does} {within i : ℕ} {g : Gateway} {p q : Past} {out : List ℕ} {c : Call} {p' : Past} → Adds f within i g p q out c p' → p'.opened ≡ p.opened
 adds_open (refused c e) = refl
 adds_open (elsewhere c n) = refl
 adds_open (moded a) = refl
@@ -40,7 +40,7 @@ step_inside a (opens e s time out m n t) = clash (sym e ∙ a.0)
 step_inside a (calls o c out still stays adds) = (adds_open adds ∙ o, stays a.1)
 
 -- an end that is in modem relay is so for as long as the two go on
-pub goes_inside : {f : Does} {within i j identifier kind : ℕ} {g g' h h' : Gateway} {p p' q q' : Past} → InRelay g i p → Goes f within i j identifier kind g p h q g' p' h' q' → InRelay g' i p'
+pub goes_inside : {f : Does} {within i j identifier kind : ℕ} {g h : Gateway} {p q : Past} {g' h' : Gateway} {p' q' : Past} → InRelay g i p → Goes f within i j identifier kind g p h q g' p' h' q' → InRelay g' i p'
 goes_inside a stay = a
 goes_inside a (here w s) = step_inside (goes_inside a w) s
 goes_inside a (there w s) = goes_inside a w

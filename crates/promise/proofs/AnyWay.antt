@@ -58,6 +58,7 @@ packeted : {c n : ℕ} {ks : List Packet} {ns : List ℕ} → Carry c ks ns → 
 packeted {c} (one {k = k} b e f g s) (Memᴰ.head q) =
     record { packet = k; base = b; written = Memᴰ.head refl; carries = e ∙ ap (λ (x : ℕ). mark c x ∷ []) (sym q); names = f; acks = g }
 packeted (one b e f g s) (Memᴰ.tail m) = still_packeted (packeted s m)
+packeted {c = c} {n = n} nothing x4 = elim x4 [ ]
 
 map_mem : {A B : Type 0} (f : A → B) {a : A} {l : List A} → Memᴰ a l → Memᴰ (f a) (map f l)
 map_mem f (Memᴰ.head e) = Memᴰ.head (ap f e)

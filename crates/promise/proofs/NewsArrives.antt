@@ -84,8 +84,8 @@ module _ {e f : End} (k : Relaying e.line) (j : Joined e f) where
       (e.past.taken channel) (f.past.handed channel) (sends_ok j.mine.sides channel) (gets_ok j.yours.sides channel) there n g.have (known there n g.have) (omega (arith, c, there.count)))
 
 -- "acknowledgements as listed"
-pub acks_joined : {e f : End} → Relaying e.line → Joined e f → {ms : List Mark} → Each (HasCome (got f)) ms → Each (Recent e.past.taken) ms
+pub acks_joined : {f e : End} → Relaying e.line → Joined e f → {ms : List Mark} → Each (HasCome (got f)) ms → Each (Recent e.past.taken) ms
     → Joined (with_line e (acked_all e.line (map mark_word ms))) f
 unfolding acked_all
 acks_joined k j none none = j
-acks_joined {e} k j (also {a = m} g gs) (also c cs) = acks_joined (acked_relaying e.line k (mark_word m)) (ack_joined k j m g c) gs cs
+acks_joined {e = e} k j (also {a = m} g gs) (also c cs) = acks_joined {e = with_line e (acked_line e.line (mark_word m))} (acked_relaying e.line k (mark_word m)) (ack_joined k j m g c) gs cs

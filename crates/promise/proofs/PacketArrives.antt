@@ -91,6 +91,7 @@ module _ {e f : End} (relaying : Relaying e.line) (j : Joined e f) (k : Packet) 
       let part = ap (λ (x : ℕ). stored_part (news_line l s) channel x (payload_of s) e.part) (sym q) ∙ payload_part l s there e.part in
       transport (λ t. Joined (record { line = line t; part = part t; past = (heard (m ∷ [])).past }) f)
       (storing_joined (news_relaying l relaying s) n channel v (payload_of s) (arrive_size l s pass) b d lately some)
+  payload_joined n (m ∷ (_ ∷ _)) x6 c = elim x6 [ ]
 
   -- What is carried may have, in 14 bits, the number of a later message n that is not taken yet and that the window has room for: it is stored as that.
   pub stored_as : Each (Recent e.past.taken) k.names → Each (Recent e.past.taken) k.acks → reliable channel ≡ true → 0 < length (payload_of s) → (n : ℕ) → (head_at s).number ≡ n % modulus

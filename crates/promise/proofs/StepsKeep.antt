@@ -149,7 +149,7 @@ module _ {i j identifier kind : ℕ} {g h : Gateway} {p q : Past} (k : Pair i j 
       let d = adds_kept e stays a in
       record { mine = sound_after k.mine c out d.0; yours = k.yours; joined = d.1 }
 
-pub goes_kept : {i j identifier kind : ℕ} {g g' h h' : Gateway} {p p' q q' : Past} → Pair i j identifier kind g p h q → Goes i j identifier kind g p h q g' p' h' q' → Pair i j identifier kind g' p' h' q'
+pub goes_kept : {i j identifier kind : ℕ} {g h : Gateway} {p q : Past} {g' h' : Gateway} {p' q' : Past} → Pair i j identifier kind g p h q → Goes i j identifier kind g p h q g' p' h' q' → Pair i j identifier kind g' p' h' q'
 goes_kept k stay = k
 goes_kept k (here w s) = step_kept (goes_kept k w) s
 goes_kept k (there w s) = turned (step_kept (turned (goes_kept k w)) s)

@@ -17,7 +17,7 @@ module _ {low high : ℕ} (more : low ≤ high) where
   still_honest : {p q : Past} {s : List ℕ} {k : Packet} → Honest low p q s k → Honest high p q s k
   still_honest {p} {q} h = record { written = h.written; same = h.same; carries = still_recent q.taken h.carries; names = still_recent p.taken h.names; acks = still_recent p.taken h.acks }
 
-  still_adds : {f : Does} {i : ℕ} {g : Gateway} {p q p' : Past} {out : List ℕ} {c : Call} → Adds f low i g p q out c p' → Adds f high i g p q out c p'
+  still_adds : {f : Does} {i : ℕ} {g : Gateway} {p q : Past} {out : List ℕ} {c : Call} {p' : Past} → Adds f low i g p q out c p' → Adds f high i g p q out c p'
   still_adds (refused c e) = refused c e
   still_adds (elsewhere c n) = elsewhere c n
   still_adds (moded a) = moded a
@@ -33,7 +33,7 @@ module _ {low high : ℕ} (more : low ≤ high) where
   still_step (opens e s time out a b t) = opens e s time out a b t
   still_step (calls e c out o r a) = calls e c out o r (still_adds a)
 
-  still_goes : {f : Does} {i j identifier kind : ℕ} {g g' h h' : Gateway} {p p' q q' : Past} → Goes f low i j identifier kind g p h q g' p' h' q' → Goes f high i j identifier kind g p h q g' p' h' q'
+  still_goes : {f : Does} {i j identifier kind : ℕ} {g h : Gateway} {p q : Past} {g' h' : Gateway} {p' q' : Past} → Goes f low i j identifier kind g p h q g' p' h' q' → Goes f high i j identifier kind g p h q g' p' h' q'
   still_goes stay = stay
   still_goes (here w s) = here (still_goes w) (still_step s)
   still_goes (there w s) = there (still_goes w) (still_step s)
