@@ -179,7 +179,7 @@ step_low {g = g} k (before e c out) = call_low c g.book g.store out k
 step_low {i = i} {g = g} k (opens e s time out a b t) = call_low (call.opening i s time) g.book g.store out k
 step_low {g = g} k (calls o c out still stays a) = call_low c g.book g.store out k
 
-goes_low : {i j identifier kind : ℕ} {g g' h h' : Gateway} {p p' q q' : Past} → LowBook g.book → Goes f bound i j identifier kind g p h q g' p' h' q' → LowBook g'.book
+goes_low : {i j identifier kind : ℕ} {g h : Gateway} {p q : Past} {g' h' : Gateway} {p' q' : Past} → LowBook g.book → Goes f bound i j identifier kind g p h q g' p' h' q' → LowBook g'.book
 goes_low k stay = k
 goes_low k (here w s) = step_low (goes_low k w) s
 goes_low k (there w s) = goes_low k w
