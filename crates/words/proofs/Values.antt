@@ -1,7 +1,6 @@
 -- A number read digit by digit is what its digits say.
 -- Assumes nothing.
-use Rattle.std.proofs.Common.{◌≡◌, ℕ, zero, suc, ◌+◌, ◌-◌, ◌*◌, ◌^◌, ◌<◌, ◌≤◌, Bool, true, false, ◌&&◌, ltb, List, [], ◌∷◌, length, get_or, drop, sym, refl, ap, ◌∙◌, add-one, arith, drop_of_length-le, drop-cons, ltb-false, le-ltb, lt-ltb}
-use Rattle.ground.specs.Pick.{pick}
+use Rattle.std.proofs.Common.{◌≡◌, ℕ, suc, ◌+◌, ◌^◌, ◌<◌, ◌≤◌, ltb, List, [], ◌∷◌, length, get_or, drop, sym, ap, ◌∙◌, add-one, arith, drop_of_length-le, drop-cons, ltb-false, le-ltb, lt-ltb}
 use Rattle.ground.proofs.Picks.{pick-by, and_false}
 use Rattle.words.specs.Digits.{is_digit, all_digits, grown, value_from, says_from, longer_by}
 use Rattle.words.specs.declared.digits.Number.{Number}
