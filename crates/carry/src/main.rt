@@ -11,6 +11,8 @@ use gateway::{HeldAnswer, Written};
 use ground::WriteAnswer;
 use line::Settings;
 use mode::Modes;
+use std::io;
+use std::rt::Env;
 use words::Number;
 
 // What is asked of a run, as the third argument's table has it.
@@ -322,9 +324,9 @@ fn refusals(count: u64, what: u8, store: &mut [u8; 42240], counts: &mut [u64; 3]
 }
 
 // The number that an argument says, or else that one.
-fn argument(i: usize, other: u64) -> u64 {
+fn argument(rt: &impl Env, i: usize, other: u64) -> u64 {
     let mut word = [0u8; 20];
-    let n = os::arg(i, &mut word);
+    let n = rt.arg(i, &mut word).unwrap_or(0);
     let said = words::read_number(&word[0..n]);
     match said {
         Number::Says(v) => v,
@@ -333,9 +335,9 @@ fn argument(i: usize, other: u64) -> u64 {
 }
 
 // What the third argument asks for; 0, to carry, where it is none of these words.
-fn asked() -> u8 {
+fn asked(rt: &impl Env) -> u8 {
     let mut word = [0u8; 8];
-    let n = os::arg(3, &mut word);
+    let n = rt.arg(3, &mut word).unwrap_or(0);
     let mut none = [0u8; 0];
     let said = words::call(
         &word[0..n],
@@ -355,37 +357,38 @@ fn sized(asked: u64) -> usize {
 }
 
 // Says a text, and a number after it.
-fn say(text: &[u8], n: u64) {
+fn say(rt: &impl Print, text: &[u8], n: u64) -> io::Result<()> {
     let mut digits = [0u8; 21];
     let count = words::decimal(&mut digits, 0, n);
-    io::write_all(libc::STDOUT_FILENO, text);
+    rt.write_all(text)?;
     if count <= 21 {
-        io::write_all(libc::STDOUT_FILENO, &digits[0..count]);
+        rt.write_all(&digits[0..count])?;
     }
+    Ok(())
 }
 
 // Says what was counted, of so many messages of so many octets.
-fn tell(counts: [u64; 3], count: u64, size: usize) {
-    say(b"carried", counts[CARRIED]);
-    say(b" of", count);
-    say(b" messages of", size as u64);
-    say(b" octets,", counts[OCTETS]);
-    say(b" octets,", counts[REFUSED]);
-    io::write_all(libc::STDOUT_FILENO, b" calls refused\n");
+fn tell(rt: &impl Print, counts: [u64; 3], count: u64, size: usize) -> io::Result<()> {
+    say(rt, b"carried", counts[CARRIED])?;
+    say(rt, b" of", count)?;
+    say(rt, b" messages of", size as u64)?;
+    say(rt, b" octets,", counts[OCTETS])?;
+    say(rt, b" octets,", counts[REFUSED])?;
+    rt.write_all(b" calls refused\n")
 }
 
-fn main() {
+fn main(rt: HostRuntime) -> io::Result<()> {
     let mut a = [0u8; 42240];
     let mut b = [0u8; 42240];
     let mut counts = [0u64; 3];
-    let count = argument(1, 1000);
-    let size = sized(argument(2, 132));
-    let what = asked();
+    let count = argument(&rt, 1, 1000);
+    let size = sized(argument(&rt, 2, 132));
+    let what = asked(&rt);
     let check = what == CHECK;
     match what {
         STILL | FULL => refusals(count, what, &mut a, &mut counts),
         BARE => bare(count, size, &mut counts),
         _ => carry(count, Run { size, check }, &mut a, &mut b, &mut counts),
     }
-    tell(counts, count, size);
+    tell(&rt, counts, count, size)
 }

@@ -3,10 +3,11 @@
 use gateway::{ArriveAnswer, HeldAnswer, TakeAnswer};
 use ground::{Refusal, Verdict, WriteAnswer};
 use mode::{AskAnswer, HearAnswer, TickAnswer};
+use std::io;
 
 #[derive(Clone, Copy)]
 pub enum Reply {
-    // The line is no call, for the reason of that number in the list of `why`.
+    // The line is no call, for the reason of that number, which `reason_text` names.
     NoCall(u8),
     Refused(Refusal),
     // The text of that number in the list of `text`.
@@ -152,31 +153,45 @@ fn put(reply: Reply, number: u64, octets: &[u8], out: &mut [u8]) -> usize {
 }
 
 // Writes so many octets and a line feed.
-fn write(file: i32, out: &mut [u8], n: usize) {
+fn write(rt: &impl Print, out: &mut [u8], n: usize) -> io::Result<()> {
     let end = words::put(out, n, b"\n");
     if end <= out.len() {
-        io::write_all(file, &out[0..end]);
+        rt.write_all(&out[0..end])?;
+    }
+    Ok(())
+}
+
+// The words for a reason why a line is no call.
+fn reason_text(reason: u8) -> &'static str {
+    match reason {
+        words::UNKNOWN => ": no such call",
+        words::MISSING => ": a word is missing",
+        words::EXTRA => ": a word too many",
+        words::WRONG => ": a word is not of its kind, or a number too large",
+        TOO_LONG => ": too long",
+        OUT_OF_REACH => ": a message out of reach",
+        _ => "",
     }
 }
 
 // Writes to standard error why the line of a number is no call.
-fn why(reason: u8, number: u64, out: &mut [u8]) {
-    let line = words::put(out, 0, b"line");
-    let line = words::decimal(out, line, number);
-    let end = words::listed(
-        out,
-        line,
-        b"|: no such call|: a word is missing|: a word too many|: a word is not of its kind, or a number too large|: too long|: a message out of reach",
-        reason,
-    );
-    write(libc::STDERR_FILENO, out, end);
+fn why(rt: &impl Eprint, reason: u8, number: u64) -> io::Result<()> {
+    let text = reason_text(reason);
+    eprintln!(rt; "line {number}{text}")
 }
 
 // Answers the line of a number.
-pub fn say(reply: Reply, number: u64, octets: &[u8], out: &mut [u8]) {
+pub fn say(
+    rt: &(impl Print + Eprint),
+    reply: Reply,
+    number: u64,
+    octets: &[u8],
+    out: &mut [u8],
+) -> io::Result<()> {
     let end = put(reply, number, octets, out);
-    write(libc::STDOUT_FILENO, out, end);
+    write(rt, out, end)?;
     if let Reply::NoCall(reason) = reply {
-        why(reason, number, out);
+        why(rt, reason, number)?;
     }
+    Ok(())
 }

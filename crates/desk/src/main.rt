@@ -9,6 +9,8 @@ use answer::Reply;
 use book::Book;
 use parse::Request;
 use script::Script;
+use std::io;
+use std::io::Input;
 
 mod answer; // answer.rt: the words of an answer
 mod bodies; // bodies.rt: CONNECT, BREAK and slips
@@ -154,48 +156,71 @@ fn make(
 }
 
 // A line of the script is answered, once it has ended and unless it is blank or a comment.
-fn serve(desk: Desk, line: &[u8], stores: &mut [u8], octets: &mut [u8], out: &mut [u8]) -> Desk {
+fn serve(
+    rt: &(impl Print + Eprint),
+    desk: Desk,
+    line: &[u8],
+    stores: &mut [u8],
+    octets: &mut [u8],
+    out: &mut [u8],
+) -> io::Result<Desk> {
     let script = desk.script;
     if !script.answered() {
-        return desk;
+        return Ok(desk);
     }
     let request = parse::read(script, line, octets);
     let next = make(desk, request, stores, octets, out);
     let reply = next.reply;
-    answer::say(reply, script.number, octets, out);
-    next
+    answer::say(rt, reply, script.number, octets, out)?;
+    Ok(next)
 }
 
 // More of the script is read, up to the end of a line, and that line is answered.
 fn advance(
+    rt: &(impl Input + Print + Eprint),
     desk: Desk,
     buffer: &mut [u8],
     line: &mut [u8],
     stores: &mut [u8],
     octets: &mut [u8],
     out: &mut [u8],
-) -> Desk {
-    let script = desk.script.advance(buffer, line);
-    serve(Desk { script, ..desk }, line, stores, octets, out)
+) -> io::Result<Desk> {
+    let script = desk.script.advance(rt, buffer, line)?;
+    serve(rt, Desk { script, ..desk }, line, stores, octets, out)
 }
 
 // Reads the script to its end, and answers it line by line.
-fn run(buffer: &mut [u8], line: &mut [u8], stores: &mut [u8], octets: &mut [u8], out: &mut [u8]) {
+fn run(
+    rt: &(impl Input + Print + Eprint),
+    buffer: &mut [u8],
+    line: &mut [u8],
+    stores: &mut [u8],
+    octets: &mut [u8],
+    out: &mut [u8],
+) -> io::Result<()> {
     let mut desk = Desk::fresh();
     let mut turns = u64::MAX;
     while 0 < turns {
-        desk = advance(desk, buffer, line, stores, octets, out);
+        desk = advance(rt, desk, buffer, line, stores, octets, out)?;
         let script = desk.script;
         turns = script.turns_left(turns);
     }
+    Ok(())
 }
 
-fn main() {
-    let mut buffer = io::buffer();
+fn main(rt: HostRuntime) -> io::Result<()> {
+    let mut buffer = [0u8; 4096];
     let mut line = [0u8; 2000];
     let mut stores = [0u8; 84480];
     let mut octets = [0u8; 600];
     let mut out = [0u8; 1300];
-    run(&mut buffer, &mut line, &mut stores, &mut octets, &mut out);
-    io::write_all(libc::STDOUT_FILENO, b"end\n");
+    run(
+        &rt,
+        &mut buffer,
+        &mut line,
+        &mut stores,
+        &mut octets,
+        &mut out,
+    )?;
+    rt.write_all(b"end\n")
 }

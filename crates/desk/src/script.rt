@@ -2,6 +2,8 @@
 // comments are counted and passed over.
 ghost use Rattle.std.specs.Prelude.{◌<◌};
 
+use std::io;
+use std::io::{Input, Read};
 use std::num::{wrapping_add_u64, wrapping_add_usize};
 
 // The line that is being read. Its octets lie at the start of a buffer of the desk.
@@ -130,35 +132,39 @@ impl Script {
     }
 
     // Reads from the input. At its end the line has ended, with its line feed or without it.
-    fn filled(self, buffer: &mut [u8], line: &mut [u8]) -> Script {
-        let got = libc::read(libc::STDIN_FILENO, buffer);
-        if got <= 0 {
+    fn filled(self, rt: &impl Input, buffer: &mut [u8], line: &mut [u8]) -> io::Result<Script> {
+        let to = rt.reader().read(buffer)?;
+        if to == 0 {
             let last = self.settled(line);
-            return Script {
+            return Ok(Script {
                 ended: true,
                 more: false,
                 ..last
-            };
+            });
         }
-        let to = io::count(got, buffer);
-        Script {
+        Ok(Script {
             from: 0,
             to,
             ..self
-        }
+        })
     }
 
     // The line that is being read once more of it is read: up to its end, or to the end of the buffer.
-    pub fn advance(self, buffer: &mut [u8], line: &mut [u8]) -> Script {
+    pub fn advance(
+        self,
+        rt: &impl Input,
+        buffer: &mut [u8],
+        line: &mut [u8],
+    ) -> io::Result<Script> {
         let script = self.current();
         let from = script.from;
         let to = script.to;
         if to <= from {
-            return script.filled(buffer, line);
+            return script.filled(rt, buffer, line);
         }
         if buffer.len() < to {
-            return script.filled(buffer, line);
+            return script.filled(rt, buffer, line);
         }
-        script.through(&buffer[from..to], line)
+        Ok(script.through(&buffer[from..to], line))
     }
 }

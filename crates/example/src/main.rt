@@ -6,6 +6,7 @@ use gateway::{ArriveAnswer, HeldAnswer, TakeAnswer};
 use ground::WriteAnswer;
 use line::Settings;
 use mode::Modes;
+use std::io;
 
 // How many messages are to cross.
 const MESSAGES: u8 = 12;
@@ -23,9 +24,9 @@ struct Ends {
 }
 
 // Prints a number, in two digits, and what it stands for.
-fn say(n: u8, what: &[u8]) {
-    io::write_all(libc::STDOUT_FILENO, &[b'0' + n / 10 % 10, b'0' + n % 10]);
-    io::write_all(libc::STDOUT_FILENO, what);
+fn say(rt: &impl Print, n: u8, what: &[u8]) -> io::Result<()> {
+    rt.write_all(&[b'0' + n / 10 % 10, b'0' + n % 10])?;
+    rt.write_all(what)
 }
 
 // A gateway with line 0 open and in modem relay. Both ends name the same identifier and payload type. A refused call leaves the
@@ -51,145 +52,171 @@ fn text(n: u8) -> [u8; 17] {
 }
 
 // Was a message taken? A refusal is printed. What is said of an answer stands in functions without a book, which are proved faster.
-fn was_taken(answer: TakeAnswer) -> bool {
+fn was_taken(rt: &impl Print, answer: TakeAnswer) -> io::Result<bool> {
     match answer {
         TakeAnswer::Refused(r) => {
-            say(ground::number(r), b" refuses a message\n");
-            false
+            say(rt, ground::number(r), b" refuses a message\n")?;
+            Ok(false)
         }
-        TakeAnswer::Number(_) => true,
+        TakeAnswer::Number(_) => Ok(true),
     }
 }
 
 // The site takes the next message. One that is refused, as when its window is FULL, is offered again in the next round.
-fn take(mut ends: Ends, a: &mut [u8; 42240]) -> Ends {
+fn take(rt: &impl Print, mut ends: Ends, a: &mut [u8; 42240]) -> io::Result<Ends> {
     if MESSAGES <= ends.taken {
-        return ends;
+        return Ok(ends);
     }
     let taken = gateway::take(ends.site, a, 0, 1, &text(ends.taken));
     let answer = taken.answer;
-    if was_taken(answer) {
+    if was_taken(rt, answer)? {
         ends.taken += 1;
     }
     let site = taken.book; // a field that is a struct is bound by `let` before it is passed on
     ends.site = site;
-    ends
+    Ok(ends)
 }
 
 // How many octets were written: none where the call was refused, which is printed.
-fn written(answer: WriteAnswer) -> usize {
+fn written(rt: &impl Print, answer: WriteAnswer) -> io::Result<usize> {
     match answer {
         WriteAnswer::Refused(r) => {
-            say(ground::number(r), b" refuses to write\n");
-            0
+            say(rt, ground::number(r), b" refuses to write\n")?;
+            Ok(0)
         }
-        WriteAnswer::Wrote(n) => n,
+        WriteAnswer::Wrote(n) => Ok(n),
     }
 }
 
 // Prints the refusal of a packet.
-fn tell_arrival(answer: ArriveAnswer) {
+fn tell_arrival(rt: &impl Print, answer: ArriveAnswer) -> io::Result<()> {
     match answer {
-        ArriveAnswer::Refused(r) => say(ground::number(r), b" refuses a packet\n"),
-        ArriveAnswer::At(_) => {}
+        ArriveAnswer::Refused(r) => say(rt, ground::number(r), b" refuses a packet\n"),
+        ArriveAnswer::At(_) => Ok(()),
     }
 }
 
 // The n octets that were written arrive at the other end, unless the link loses them. `n` never exceeds the output; the guard spares
 // a proof of that. Of all packets every third is lost: the site's in rounds 1, 4, 7 and so on, the office's in rounds 2, 5, 8 and so on.
-fn cross(to: Book, store: &mut [u8; 42240], packet: &[u8], n: usize, lost: bool) -> Book {
+fn cross(
+    rt: &impl Print,
+    to: Book,
+    store: &mut [u8; 42240],
+    packet: &[u8],
+    n: usize,
+    lost: bool,
+) -> io::Result<Book> {
     if lost | (n == 0) {
-        return to;
+        return Ok(to);
     }
     if packet.len() < n {
-        return to;
+        return Ok(to);
     }
     let arrived = gateway::arrive(to, store, &packet[0..n]);
     let answer = arrived.answer;
-    tell_arrival(answer);
-    arrived.book
+    tell_arrival(rt, answer)?;
+    Ok(arrived.book)
 }
 
 // How many messages are held unacknowledged. A refusal is printed.
-fn count(answer: HeldAnswer) -> u32 {
+fn count(rt: &impl Print, answer: HeldAnswer) -> io::Result<u32> {
     match answer {
         HeldAnswer::Refused(r) => {
-            say(ground::number(r), b" refuses to count\n");
-            0
+            say(rt, ground::number(r), b" refuses to count\n")?;
+            Ok(0)
         }
-        HeldAnswer::Holds(count) => count,
+        HeldAnswer::Holds(count) => Ok(count),
     }
 }
 
 // The site writes one of the messages that it holds unacknowledged. The rank varies from round to round, and a program with a
 // clock should vary its pauses too: a link that loses packets at a steady beat could lose the same message every time.
-fn send(mut ends: Ends, a: &[u8; 42240], b: &mut [u8; 42240], round: u8) -> Ends {
-    let count = count(gateway::held(ends.site, 0, 1));
+fn send(
+    rt: &impl Print,
+    mut ends: Ends,
+    a: &[u8; 42240],
+    b: &mut [u8; 42240],
+    round: u8,
+) -> io::Result<Ends> {
+    let count = count(rt, gateway::held(ends.site, 0, 1))?;
     if count == 0 {
-        return ends;
+        return Ok(ends);
     }
     let rank = (round as u32 % count % 32) as u8; // no more than 32 are held
     let mut packet = [0u8; 144];
     let sent = gateway::send(ends.site, a, 0, 1, rank, &mut packet);
     let answer = sent.answer;
-    let office = cross(ends.office, b, &packet, written(answer), round % 3 == 1);
+    let n = written(rt, answer)?;
+    let office = cross(rt, ends.office, b, &packet, n, round % 3 == 1)?;
     let site = sent.book;
     ends.site = site;
     ends.office = office;
-    ends
+    Ok(ends)
 }
 
 // Prints a message that was handed out, if one was.
-fn printed(answer: WriteAnswer, out: &[u8]) -> bool {
+fn printed(rt: &impl Print, answer: WriteAnswer, out: &[u8]) -> io::Result<bool> {
     match answer {
-        WriteAnswer::Refused(_) => false,
+        WriteAnswer::Refused(_) => Ok(false),
         WriteAnswer::Wrote(n) => {
             if n <= out.len() {
-                io::write_all(libc::STDOUT_FILENO, &out[0..n]);
+                rt.write_all(&out[0..n])?;
             }
-            true
+            Ok(true)
         }
     }
 }
 
 // The office hands out the next message and prints it. NOTHING refuses while that message is still on its way.
 // A packet brings at most one message, so one a round keeps up.
-fn hand_out(mut ends: Ends, b: &[u8; 42240]) -> Ends {
+fn hand_out(rt: &impl Print, mut ends: Ends, b: &[u8; 42240]) -> io::Result<Ends> {
     if MESSAGES <= ends.handed {
-        return ends;
+        return Ok(ends);
     }
     let mut out = [0u8; 132];
     let handed = gateway::hand_out(ends.office, b, 0, 1, &mut out);
     let answer = handed.answer;
-    if printed(answer, &out) {
+    if printed(rt, answer, &out)? {
         ends.handed += 1;
     }
     let office = handed.book;
     ends.office = office;
-    ends
+    Ok(ends)
 }
 
 // The office writes an empty packet: acknowledgements of what arrived, and base news.
-fn acknowledge(mut ends: Ends, a: &mut [u8; 42240], round: u8) -> Ends {
+fn acknowledge(
+    rt: &impl Print,
+    mut ends: Ends,
+    a: &mut [u8; 42240],
+    round: u8,
+) -> io::Result<Ends> {
     let mut packet = [0u8; 144];
     let sent = gateway::empty(ends.office, 0, 1, &mut packet);
     let answer = sent.answer;
-    let site = cross(ends.site, a, &packet, written(answer), round % 3 == 2);
+    let n = written(rt, answer)?;
+    let site = cross(rt, ends.site, a, &packet, n, round % 3 == 2)?;
     let office = sent.book;
     ends.site = site;
     ends.office = office;
-    ends
+    Ok(ends)
 }
 
 // One round. Stores are passed on as arrays, not slices, which spares a proof of their length.
-fn turn(mut ends: Ends, a: &mut [u8; 42240], b: &mut [u8; 42240], round: u8) -> Ends {
-    ends = take(ends, a);
-    ends = send(ends, a, b, round);
-    ends = hand_out(ends, b);
-    acknowledge(ends, a, round)
+fn turn(
+    rt: &impl Print,
+    mut ends: Ends,
+    a: &mut [u8; 42240],
+    b: &mut [u8; 42240],
+    round: u8,
+) -> io::Result<Ends> {
+    ends = take(rt, ends, a)?;
+    ends = send(rt, ends, a, b, round)?;
+    ends = hand_out(rt, ends, b)?;
+    acknowledge(rt, ends, a, round)
 }
 
-fn main() {
+fn main(rt: HostRuntime) -> io::Result<()> {
     let mut a = [0u8; 42240];
     let mut b = [0u8; 42240];
     let book = ready();
@@ -201,8 +228,8 @@ fn main() {
     };
     let mut round = 0;
     while round < ROUNDS && ends.handed < MESSAGES {
-        ends = turn(ends, &mut a, &mut b, round);
+        ends = turn(&rt, ends, &mut a, &mut b, round)?;
         round += 1;
     }
-    say(ends.handed, b" of 12 messages handed out\n");
+    say(&rt, ends.handed, b" of 12 messages handed out\n")
 }

@@ -4,6 +4,9 @@
 #![tactic(auto)]
 
 use dice::Dice;
+use std::env::FillError;
+use std::io;
+use std::rt::Env;
 use story::Ends;
 use tally::Stream;
 use words::Number;
@@ -72,54 +75,63 @@ fn carry(
 }
 
 // Every 500 turns a bar says how far the night has come.
-fn tell(ledger: &[u64; 2304], turn: u64, time: u64) {
+fn tell(rt: &impl Print, ledger: &[u64; 2304], turn: u64, time: u64) -> io::Result<()> {
     if turn % 500 == 0 {
-        paper::progress(ledger, time);
+        paper::progress(rt, ledger, time)?;
     }
+    Ok(())
 }
 
 // Line 3 begins its second call once its first is done.
-fn call_again(ends: Ends, ledger: &mut [u64; 2304], time: u64) -> Ends {
+fn call_again(
+    rt: &impl Print,
+    ends: Ends,
+    ledger: &mut [u64; 2304],
+    time: u64,
+) -> io::Result<Ends> {
     if !(tally::line_done(ledger, 3) & story::first_call(ends.site)) {
-        return ends;
+        return Ok(ends);
     }
     ask(ledger, 3);
-    story::again(ends, time, ledger)
+    story::again(rt, ends, time, ledger)
 }
 
 // One turn.
 fn turn(
+    rt: &impl Print,
     mut ends: Ends,
     a: &mut [u8; 42240],
     b: &mut [u8; 42240],
     air: &mut [u8],
     ledger: &mut [u64; 2304],
     dice: Dice,
-) -> Ends {
+) -> io::Result<Ends> {
     let time = dice.turn % 65536 * TURN;
     ends = carry(ends, a, b, air, ledger, dice);
-    tell(ledger, dice.turn, time);
-    ends = story::turn(ends, dice.turn, time);
-    call_again(ends, ledger, time)
+    tell(rt, ledger, dice.turn, time)?;
+    ends = story::turn(rt, ends, dice.turn, time)?;
+    call_again(rt, ends, ledger, time)
 }
 
 // All lines close.
-fn end(mut ends: Ends, ledger: &mut [u64; 2304], time: u64) {
-    paper::progress(ledger, time);
-    ends = story::hang_up(ends, 0, time, ledger);
-    ends = story::hang_up(ends, 1, time, ledger);
-    ends = story::hang_up(ends, 2, time, ledger);
-    story::hang_up(ends, 3, time, ledger);
+fn end(rt: &impl Print, mut ends: Ends, ledger: &mut [u64; 2304], time: u64) -> io::Result<()> {
+    paper::progress(rt, ledger, time)?;
+    ends = story::hang_up(rt, ends, 0, time, ledger)?;
+    ends = story::hang_up(rt, ends, 1, time, ledger)?;
+    ends = story::hang_up(rt, ends, 2, time, ledger)?;
+    story::hang_up(rt, ends, 3, time, ledger)?;
+    Ok(())
 }
 
 // The whole night, to the lines' end.
 fn run(
+    rt: &impl Print,
     seed: u64,
     a: &mut [u8; 42240],
     b: &mut [u8; 42240],
     air: &mut [u8],
     ledger: &mut [u64; 2304],
-) {
+) -> io::Result<()> {
     let fresh = gateway::fresh();
     let mut ends = Ends {
         site: fresh,
@@ -127,44 +139,39 @@ fn run(
     };
     let mut now = 0u64;
     while now < LONGEST && !tally::all_done(ledger) {
-        ends = turn(ends, a, b, air, ledger, Dice { seed, turn: now });
+        ends = turn(rt, ends, a, b, air, ledger, Dice { seed, turn: now })?;
         now += 1;
     }
-    end(ends, ledger, now % 65536 * TURN);
+    end(rt, ends, ledger, now % 65536 * TURN)
 }
 
 // The seed that the program was started with, or its own.
-fn seed() -> Number {
-    if os::arg_count() < 2 {
-        return Number::Says(20030113);
-    }
+fn seed(rt: &impl Env) -> Number {
     let mut text = [0u8; 20];
-    let count = os::arg(1, &mut text);
-    words::read_number(&text[..count])
+    match rt.arg(1, &mut text) {
+        Ok(count) => words::read_number(&text[..count]),
+        Err(FillError::NotPresent) => Number::Says(20030113),
+        Err(FillError::TooLong) => Number::Nothing,
+    }
 }
 
 // A night of that seed.
-fn night(seed: u64) {
+fn night(rt: &impl Print, seed: u64) -> io::Result<()> {
     let mut a = [0u8; 42240];
     let mut b = [0u8; 42240];
     let mut air = [0u8; 73872];
     let mut ledger = [0u64; 2304];
-    paper::title(seed);
+    paper::title(rt, seed)?;
     ask_all(&mut ledger);
-    run(seed, &mut a, &mut b, &mut air, &mut ledger);
-    paper::table(&ledger);
-    paper::verdict(&ledger);
+    run(rt, seed, &mut a, &mut b, &mut air, &mut ledger)?;
+    paper::table(rt, &ledger)?;
+    paper::verdict(rt, &ledger)
 }
 
-fn main() {
-    let asked = seed();
+fn main(rt: HostRuntime) -> io::Result<()> {
+    let asked = seed(&rt);
     match asked {
-        Number::Says(n) => night(n),
-        Number::Nothing => {
-            io::write_all(
-                libc::STDOUT_FILENO,
-                b"night: the seed is a number of at most 20 digits\n",
-            );
-        }
+        Number::Says(n) => night(&rt, n),
+        Number::Nothing => rt.write_all(b"night: the seed is a number of at most 20 digits\n"),
     }
 }

@@ -7,6 +7,7 @@ use ground::Verdict;
 use line::Settings;
 use mode::{Modes, TickAnswer};
 use slip::Reading;
+use std::io;
 
 // The two gateways' books.
 #[derive(Clone, Copy)]
@@ -106,14 +107,15 @@ fn part(book: Book, end: u8, time: u64) -> Book {
 }
 
 // Tells of the dialling.
-fn tell_dialling(turn: u64, time: u64) {
+fn tell_dialling(rt: &impl Print, turn: u64, time: u64) -> io::Result<()> {
     let line = meeting(turn);
     if line != NONE {
-        paper::event(time, line, paper::MET);
+        paper::event(rt, time, line, paper::MET)?;
     }
     if turn == 3 {
-        paper::event(time, 2, paper::PARTED);
+        paper::event(rt, time, 2, paper::PARTED)?;
     }
+    Ok(())
 }
 
 // Which audio indication is due; 0 where none is.
@@ -125,11 +127,11 @@ fn indication(answer: TickAnswer) -> u8 {
 }
 
 // The first two audio indications are lost; the third is heard, and answered by audio.
-fn tell_recovery(line: u8, indication: u8, time: u64) {
+fn tell_recovery(rt: &impl Print, line: u8, indication: u8, time: u64) -> io::Result<()> {
     match indication {
-        0 => {}
-        1 | 2 => paper::event(time, line, paper::UNHEARD),
-        _ => paper::event(time, line, paper::RECOVERED),
+        0 => Ok(()),
+        1 | 2 => paper::event(rt, time, line, paper::UNHEARD),
+        _ => paper::event(rt, time, line, paper::RECOVERED),
     }
 }
 
@@ -142,15 +144,15 @@ fn recover(book: Book, line: u8, indication: u8, time: u64) -> Book {
 }
 
 // Tells a line the time at both ends.
-fn tick(ends: Ends, line: u8, time: u64) -> Ends {
+fn tick(rt: &impl Print, ends: Ends, line: u8, time: u64) -> io::Result<Ends> {
     let at_site = gateway::tick(ends.site, line, time);
     let answer = at_site.answer;
     let due = indication(answer);
-    tell_recovery(line, due, time);
+    tell_recovery(rt, line, due, time)?;
     let at_office = gateway::tick(ends.office, line, time);
     let site = recover(at_site.book, line, due, time);
     let office = recover(at_office.book, line, due, time);
-    Ends { site, office }
+    Ok(Ends { site, office })
 }
 
 // Both ends dial.
@@ -161,13 +163,13 @@ fn dial_both(ends: Ends, turn: u64, time: u64) -> Ends {
 }
 
 // What happens to the lines in a turn: they dial, and are told the time.
-pub fn turn(mut ends: Ends, turn: u64, time: u64) -> Ends {
+pub fn turn(rt: &impl Print, mut ends: Ends, turn: u64, time: u64) -> io::Result<Ends> {
     ends = dial_both(ends, turn, time);
-    tell_dialling(turn, time);
-    ends = tick(ends, 0, time);
-    ends = tick(ends, 1, time);
-    ends = tick(ends, 2, time);
-    tick(ends, 3, time)
+    tell_dialling(rt, turn, time)?;
+    ends = tick(rt, ends, 0, time)?;
+    ends = tick(rt, ends, 1, time)?;
+    ends = tick(rt, ends, 2, time)?;
+    tick(rt, ends, 3, time)
 }
 
 // Notes what a slip of an end says was handed out there, which the other end had sent.
@@ -182,25 +184,43 @@ fn note(ledger: &mut [u64; 2304], slip: &[u8], line: u8, end: u8) {
 }
 
 // Keeps a slip of an end, and shows it.
-fn keep(ledger: &mut [u64; 2304], slip: &[u8], line: u8, end: u8) {
+fn keep(
+    rt: &impl Print,
+    ledger: &mut [u64; 2304],
+    slip: &[u8],
+    line: u8,
+    end: u8,
+) -> io::Result<()> {
     note(ledger, slip, line, end);
-    paper::slip(slip, line, end);
+    paper::slip(rt, slip, line, end)
 }
 
 // Closes a line at one end, and keeps its slip.
-fn close(book: Book, line: u8, end: u8, ledger: &mut [u64; 2304]) -> Book {
+fn close(
+    rt: &impl Print,
+    book: Book,
+    line: u8,
+    end: u8,
+    ledger: &mut [u64; 2304],
+) -> io::Result<Book> {
     let mut slip = [0u8; 12];
     let gave = gateway::close(book, line, &mut slip);
-    keep(ledger, &slip, line, end);
-    gave.book
+    keep(rt, ledger, &slip, line, end)?;
+    Ok(gave.book)
 }
 
 // Closes a line at both ends.
-pub fn hang_up(ends: Ends, line: u8, time: u64, ledger: &mut [u64; 2304]) -> Ends {
-    paper::event(time, line, paper::CLOSED);
-    let site = close(ends.site, line, SITE, ledger);
-    let office = close(ends.office, line, OFFICE, ledger);
-    Ends { site, office }
+pub fn hang_up(
+    rt: &impl Print,
+    ends: Ends,
+    line: u8,
+    time: u64,
+    ledger: &mut [u64; 2304],
+) -> io::Result<Ends> {
+    paper::event(rt, time, line, paper::CLOSED)?;
+    let site = close(rt, ends.site, line, SITE, ledger)?;
+    let office = close(rt, ends.office, line, OFFICE, ledger)?;
+    Ok(Ends { site, office })
 }
 
 // Is line 3 in its first call?
@@ -210,18 +230,18 @@ pub fn first_call(site: Book) -> bool {
 }
 
 // Tells that opening with an identifier that rests is refused.
-fn tell_refusal(answer: Verdict, time: u64) {
+fn tell_refusal(rt: &impl Print, answer: Verdict, time: u64) -> io::Result<()> {
     match answer {
-        Verdict::Pass => paper::event(time, 3, paper::UNRESTED),
-        Verdict::Refuse(_) => paper::event(time, 3, paper::RESTS),
+        Verdict::Pass => paper::event(rt, time, 3, paper::UNRESTED),
+        Verdict::Refuse(_) => paper::event(rt, time, 3, paper::RESTS),
     }
 }
 
 // The site tries to open line 3 with its first identifier.
-fn try_first(site: Book, time: u64) {
+fn try_first(rt: &impl Print, site: Book, time: u64) -> io::Result<()> {
     let tried = opening(site, 3, FIRST, time);
     let answer = tried.answer;
-    tell_refusal(answer, time);
+    tell_refusal(rt, answer, time)
 }
 
 // An end opens line 3 with another identifier.
@@ -231,17 +251,22 @@ fn renew(mut book: Book, end: u8, time: u64) -> Book {
 }
 
 // Tells that line 3 is open again.
-fn tell_renewal(time: u64) {
-    paper::event(time, 3, paper::RENEWED);
-    paper::event(time, 3, paper::MET);
+fn tell_renewal(rt: &impl Print, time: u64) -> io::Result<()> {
+    paper::event(rt, time, 3, paper::RENEWED)?;
+    paper::event(rt, time, 3, paper::MET)
 }
 
 // Line 3 has carried its first call's messages: it closes, its identifier rests, and it opens again with another one.
-pub fn again(mut ends: Ends, time: u64, ledger: &mut [u64; 2304]) -> Ends {
-    ends = hang_up(ends, 3, time, ledger);
-    try_first(ends.site, time);
-    tell_renewal(time);
+pub fn again(
+    rt: &impl Print,
+    mut ends: Ends,
+    time: u64,
+    ledger: &mut [u64; 2304],
+) -> io::Result<Ends> {
+    ends = hang_up(rt, ends, 3, time, ledger)?;
+    try_first(rt, ends.site, time)?;
+    tell_renewal(rt, time)?;
     let site = renew(ends.site, SITE, time);
     let office = renew(ends.office, OFFICE, time);
-    Ends { site, office }
+    Ok(Ends { site, office })
 }

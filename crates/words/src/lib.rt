@@ -10,7 +10,7 @@ mod arguments; // arguments.rt: the words that a call asks for, all at once
 mod digits; // digits.rt: what digits say
 
 pub use answer::{Numbers, decimal, hexadecimal, listed, put, put_numbers, refusal};
-pub use arguments::{Arguments, UNKNOWN, call, read};
+pub use arguments::{Arguments, EXTRA, MISSING, UNKNOWN, WRONG, call, read};
 pub use digits::{Number, read_number};
 
 // A word of a line: where its first octet lies, and the place after its last. Where no word is left, both are the line's end.
