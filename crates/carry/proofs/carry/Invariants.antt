@@ -1,4 +1,3 @@
-use Rattle.std.proofs.Common.{◌-◌, ◌≤◌, ◌≡◌, length}
 use Rattle.carry.proofs.carry.Given as goal
 
 abbrev pub decreases-loop-left : goal.decreases-loop-left

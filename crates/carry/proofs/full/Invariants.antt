@@ -1,4 +1,4 @@
-use Rattle.std.proofs.Common.{◌-◌, ◌≤◌, ◌≡◌, length}
+use Rattle.std.proofs.Common.{◌≤◌}
 use Rattle.carry.proofs.full.Given as goal
 
 abbrev pub invariant-loop-left : goal.invariant-loop-left

@@ -1,4 +1,3 @@
-use Rattle.std.proofs.Common.{◌-◌, ◌≤◌, ◌≡◌, length}
 use Rattle.desk.proofs.run.Given as goal
 
 abbrev pub decreases-loop-turns : goal.decreases-loop-turns

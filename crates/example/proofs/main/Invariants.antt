@@ -1,4 +1,4 @@
-use Rattle.std.proofs.Common.{◌-◌, ◌≤◌, ◌≡◌, length}
+use Rattle.std.proofs.Common.{◌-◌, ◌≤◌}
 use Rattle.example.proofs.main.Given as goal
 
 abbrev pub invariant-loop-round : goal.invariant-loop-round

@@ -1,4 +1,4 @@
-use Rattle.std.proofs.Common.{◌-◌, ◌≤◌, ◌≡◌, length}
+use Rattle.std.proofs.Common.{◌-◌, ◌≤◌}
 use Rattle.night.proofs.paper.counts.Given as goal
 
 abbrev pub invariant-loop-kind : goal.invariant-loop-kind

@@ -1,4 +1,4 @@
-use Rattle.std.proofs.Common.{◌-◌, ◌≤◌, ◌≡◌, length}
+use Rattle.std.proofs.Common.{◌-◌}
 use Rattle.night.proofs.paper.spaces.Given as goal
 
 abbrev pub decreases-loop-i : goal.decreases-loop-i
