@@ -10,7 +10,6 @@ use Rattle.ground.proofs.Picks.{pick-by}
 use Rattle.packet.specs.Acks.{ack_list}
 use Rattle.packet.specs.Read.{head_at, acks_at, payload_of}
 use Rattle.receiving.specs.Receiving.{arrival_of}
-use Rattle.receiving.specs.declared.Receiving.{Receiving}
 use Rattle.line.specs.Line.{receiving_of}
 use Rattle.line.specs.Figures.{receive_window}
 use Rattle.line.specs.declared.Line.{Line}

@@ -11,7 +11,6 @@ use lib.ListN.{length}
 use native.Mathlib.Omega.{arith}
 use mathlib.Core.List.{List}
 use mathlib.Core.Path.{◌≡◌, ap, ◌∙◌}
-use borrow.Author.Rules.{rules}
 use Rattle.arriving.proofs.arrive.Goals as goal
 
 pub base_heard-heard-requires : goal.base_heard-heard-requires

@@ -1,9 +1,5 @@
-use Prim.Native.Nat.{◌/◌, ◌^◌}
-use native.Mathlib.Omega.{arith}
-use lib.Bits.{mask_lt}
 use Rattle.field.proofs.Laws.{top_of, mid_of, low_of}
 use Rattle.breaks.specs.Break.{break_at}
-use borrow.Author.Rules.{rules}
 use Rattle.breaks.proofs.break_at.Goals as goal
 
 pub returns : goal.returns

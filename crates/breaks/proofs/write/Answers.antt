@@ -1,8 +1,4 @@
-use lib.ListN.{length}
-use Rattle.ground.proofs.Verdicts.{writes_not}
-use Rattle.breaks.specs.Break.{write_tests, break_octets}
 use Rattle.breaks.proofs.Writes.{write_done}
-use borrow.Author.Rules.{rules}
 use Rattle.breaks.proofs.write.Goals as goal
 
 pub returns-in-Pass : goal.returns-in-Pass

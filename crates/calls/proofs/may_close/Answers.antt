@@ -9,7 +9,6 @@ use lib.Dec.{leb}
 use mathlib.Core.List.{[], ◌∷◌}
 use mathlib.Core.Path.{refl}
 use borrow.Author.Tests.{le-leb, lt-leb}
-use borrow.Author.Rules.{rules}
 use Rattle.calls.proofs.may_close.Goals as goal
 
 pub returns-in-Refuse : goal.returns-in-Refuse

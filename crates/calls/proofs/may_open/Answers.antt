@@ -4,7 +4,6 @@ use Rattle.calls.proofs.OrderStages.{open_stages}
 use Rattle.calls.proofs.Stops.{stops, goes_on}
 use mathlib.Core.List.{[], ◌∷◌}
 use mathlib.Core.Path.{sym, ◌∙◌}
-use borrow.Author.Rules.{rules}
 use Rattle.calls.proofs.may_open.Goals as goal
 
 pub may_open_line-requires : goal.may_open_line-requires

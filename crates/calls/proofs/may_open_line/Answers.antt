@@ -1,6 +1,5 @@
 use Rattle.calls.specs.Stages.{open_tests}
 use borrow.Author.Tests.{eq-eqb, ne_eqb, not-true, not-false}
-use borrow.Author.Rules.{rules}
 use mathlib.Core.Path.{ap}
 use mathlib.Core.Bool.{not}
 use Rattle.calls.proofs.may_open_line.Goals as goal

@@ -1,6 +1,5 @@
 use Rattle.book.proofs.Parts.{store_length_lem}
-use borrow.Author.Tests.{le-leb, lt-leb, not-true, not-false}
-use borrow.Author.Rules.{rules}
+use borrow.Author.Tests.{le-leb, lt-leb, not-false}
 use mathlib.Core.Path.{ap}
 use mathlib.Core.Bool.{not}
 use Rattle.calls.proofs.store_verdict.Goals as goal

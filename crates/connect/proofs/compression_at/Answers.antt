@@ -1,8 +1,4 @@
-use Prim.Native.Nat.{◌/◌, ◌^◌}
-use native.Mathlib.Omega.{arith}
-use lib.Bits.{mask_lt}
 use Rattle.field.proofs.Laws.{mid_of}
-use borrow.Author.Rules.{rules}
 use Rattle.connect.proofs.compression_at.Goals as goal
 
 pub returns : goal.returns

@@ -1,10 +1,6 @@
-use Prim.Native.Nat.{◌/◌, ◌^◌}
-use native.Mathlib.Omega.{arith}
-use lib.Bits.{mask_lt}
 use lib.Dec.{eqb}
 use Rattle.field.proofs.Laws.{top_of, mid_of, low_of}
 use Rattle.connect.specs.Read.{connect_at}
-use borrow.Author.Rules.{rules}
 use Rattle.connect.proofs.connect_at.Goals as goal
 
 pub returns : goal.returns

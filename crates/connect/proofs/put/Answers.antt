@@ -3,7 +3,6 @@ use Prim.Native.Nat.{◌/◌}
 use native.Mathlib.Omega.{arith}
 use lib.ListN.{length-take}
 use Rattle.connect.proofs.Writes.{half_size, body_stored}
-use borrow.Author.Rules.{rules}
 use Rattle.connect.proofs.put.Goals as goal
 
 pub slice_bounds-words-end : goal.slice_bounds-words-end

@@ -1,7 +1,6 @@
 use mathlib.Core.Bool.{◌&&◌}
 use borrow.Author.Tests.{eq-eqb, ne_eqb}
 use Rattle.connect.specs.Spans.{sizes_fit}
-use borrow.Author.Rules.{rules}
 use Rattle.connect.proofs.sizes_fit.Goals as goal
 
 pub returns-then-c-eq1 : goal.returns-then-c-eq1

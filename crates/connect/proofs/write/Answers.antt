@@ -1,8 +1,4 @@
-use lib.ListN.{length}
-use Rattle.ground.proofs.Verdicts.{writes_not}
-use Rattle.connect.specs.Write.{write_tests, connect_octets}
-use Rattle.connect.proofs.Writes.{write_fits, write_done}
-use borrow.Author.Rules.{rules}
+use Rattle.connect.proofs.Writes.{write_done}
 use Rattle.connect.proofs.write.Goals as goal
 
 pub returns-in-Pass : goal.returns-in-Pass

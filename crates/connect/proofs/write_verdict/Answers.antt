@@ -1,9 +1,8 @@
 use mathlib.Core.Path.{ap}
 use mathlib.Core.Bool.{◌&&◌, not}
-use borrow.Author.Tests.{not-true, not-false}
+use borrow.Author.Tests.{not-false}
 use borrow.Author.Tests.{le-leb, lt-leb}
 use Rattle.connect.proofs.Writes.{body_length}
-use borrow.Author.Rules.{rules}
 use Rattle.connect.proofs.write_verdict.Goals as goal
 
 pub returns-then-size_of-space : goal.returns-then-size_of-space

@@ -2,7 +2,6 @@ use mathlib.Core.Path.{sym}
 use Prim.Native.Nat.{◌*◌}
 use native.Mathlib.Omega.{arith}
 use Rattle.field.proofs.Laws.{bits_past, long_of}
-use borrow.Author.Rules.{rules}
 use Rattle.field.proofs.long_at.Goals as goal
 
 pub returns-then-s-i : goal.returns-then-s-i

@@ -1,10 +1,8 @@
-use borrow.Author.Rules.{rules}
-use Prim.Native.Nat.{ℕ, ◌≤◌, ◌-◌, ◌+◌}
+use Prim.Native.Nat.{ℕ, ◌+◌}
 use mathlib.Core.List.{List}
 use mathlib.Core.Path.{◌≡◌, sym, ap, ◌∙◌}
 use native.Mathlib.Omega.{arith}
-use lib.ListN.{length, take, get_or, set, length-set}
-use lib.Seq.{sets}
+use lib.ListN.{get_or, set, length-set}
 use Rattle.field.proofs.Stores.{sets_out, sets_cut, octets_on}
 use Rattle.field.proofs.put_octets.Goals as goal
 

@@ -11,7 +11,6 @@ use Rattle.line.specs.declared.Line.{Line}
 use Rattle.ground.specs.Answer.{write_says}
 use lib.ListN.{length}
 use mathlib.Core.Path.{refl, sym, ap, ◌∙◌}
-use borrow.Author.Rules.{rules}
 use Rattle.gateway.proofs.close.Goals as goal
 
 pub line-requires : goal.line-requires

@@ -10,7 +10,6 @@ use Rattle.line.specs.declared.Line.{Line}
 use Rattle.ground.specs.Answer.{accepted}
 use mathlib.Core.List.{[]}
 use mathlib.Core.Path.{sym, ap, ◌∙◌}
-use borrow.Author.Rules.{rules}
 use Rattle.gateway.proofs.open.Goals as goal
 
 pub with_line-next-requires : goal.with_line-next-requires

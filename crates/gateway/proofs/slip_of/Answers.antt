@@ -1,5 +1,4 @@
 use Rattle.calls.specs.Result.{slip_of}
-use borrow.Author.Rules.{rules}
 use Rattle.gateway.proofs.slip_of.Goals as goal
 
 pub returns-then-ended : goal.returns-then-ended

@@ -18,7 +18,6 @@ use native.Mathlib.Omega.{arith}
 use Prim.Native.Nat.{◌<◌}
 use mathlib.Core.List.{[], ◌∷◌}
 use mathlib.Core.Path.{◌≡◌, sym, ap, ◌∙◌}
-use Rattle.book.proofs.Turns.{many}
 use borrow.Author.Rules.{rules}
 use Rattle.incoming.proofs.arrive.Goals as goal
 

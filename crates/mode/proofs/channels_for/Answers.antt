@@ -1,6 +1,5 @@
 -- `channels_for` meets its contract: each return is one case of the definition.
 -- Assumes nothing.
-use borrow.Author.Rules.{rules}
 use Rattle.mode.specs.Moved.{channels_for}
 use Rattle.mode.proofs.channels_for.Goals as goal
 

@@ -12,7 +12,6 @@ use Rattle.ground.specs.Answer.{write_says}
 use lib.ListN.{length, drop}
 use mathlib.Core.List.{◌++◌}
 use mathlib.Core.Path.{sym, ap, ◌∙◌}
-use borrow.Author.Rules.{rules}
 use Rattle.outgoing.proofs.empty.Goals as goal
 
 pub line-requires : goal.line-requires

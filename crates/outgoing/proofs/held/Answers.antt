@@ -10,7 +10,6 @@ use Rattle.sending.specs.Sending.{held_count}
 use Rattle.ground.specs.Answer.{accepted}
 use mathlib.Core.List.{[], ◌∷◌}
 use mathlib.Core.Path.{sym, ap, ◌∙◌}
-use borrow.Author.Rules.{rules}
 use Rattle.outgoing.proofs.held.Goals as goal
 
 pub line-requires : goal.line-requires

@@ -20,7 +20,6 @@ use Rattle.ground.specs.Answer.{write_says}
 use lib.ListN.{length, drop}
 use mathlib.Core.List.{◌++◌}
 use mathlib.Core.Path.{◌≡◌, sym, ap, ◌∙◌}
-use borrow.Author.Rules.{rules}
 use Rattle.outgoing.proofs.send.Goals as goal
 
 pub line-l-requires : goal.line-l-requires

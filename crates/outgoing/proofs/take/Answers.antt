@@ -18,12 +18,11 @@ use Rattle.ground.specs.Answer.{accepted}
 use Rattle.ground.specs.Refusal.{verdict}
 use Rattle.ground.specs.declared.Verdict.TheVariants.{Pass}
 use lib.ListN.{length}
-use lib.Bits.{mask_lt, and_mask}
+use lib.Bits.{and_mask}
 use native.Mathlib.Omega.{arith}
 use Prim.Native.Nat.{ℕ, ◌%◌, ◌≤◌}
 use mathlib.Core.List.{[], ◌∷◌}
 use mathlib.Core.Path.{◌≡◌, sym, ap, ◌∙◌}
-use borrow.Author.Rules.{rules}
 use Rattle.outgoing.proofs.take.Goals as goal
 
 pub line-l-requires : goal.line-l-requires

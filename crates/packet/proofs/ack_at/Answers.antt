@@ -1,7 +1,6 @@
 use native.Mathlib.Omega.{arith}
 use Rattle.field.proofs.Laws.{top_of}
 use Rattle.packet.proofs.Cases.{ack_there, ack_none}
-use borrow.Author.Rules.{rules}
 use Rattle.packet.proofs.ack_at.Goals as goal
 
 pub returns-then-k-word_at : goal.returns-then-k-word_at

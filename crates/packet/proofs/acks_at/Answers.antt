@@ -1,6 +1,5 @@
 use Rattle.field.proofs.Laws.{top_of}
 use Rattle.packet.specs.Read.{acks_at}
-use borrow.Author.Rules.{rules}
 use Rattle.packet.proofs.acks_at.Goals as goal
 
 pub returns : goal.returns

@@ -1,5 +1,4 @@
 use Rattle.packet.proofs.Tests.{served_words}
-use borrow.Author.Rules.{rules}
 use Rattle.packet.proofs.acks_served.Goals as goal
 
 pub returns : goal.returns

@@ -1,5 +1,4 @@
 use Rattle.field.proofs.Laws.{top_of}
-use borrow.Author.Rules.{rules}
 use Rattle.packet.proofs.channel_at.Goals as goal
 
 pub returns : goal.returns

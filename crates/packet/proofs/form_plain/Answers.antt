@@ -1,7 +1,6 @@
 use mathlib.Core.Bool.{◌&&◌}
 use lib.Dec.{eqb}
 use Rattle.field.proofs.Laws.{top_of, mid_of}
-use borrow.Author.Rules.{rules}
 use Rattle.packet.proofs.form_plain.Goals as goal
 
 pub returns : goal.returns

@@ -1,9 +1,5 @@
-use native.Mathlib.Omega.{arith}
-use Prim.Native.Nat.{◌/◌, ◌^◌}
-use lib.Bits.{mask_lt}
 use Rattle.field.proofs.Laws.{low_of, mid_of}
 use Rattle.packet.specs.Read.{head_at}
-use borrow.Author.Rules.{rules}
 use Rattle.packet.proofs.head_at.Goals as goal
 
 pub returns : goal.returns

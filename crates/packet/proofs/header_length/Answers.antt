@@ -1,7 +1,6 @@
 use mathlib.Core.Path.{ap}
 use Prim.Native.Nat.{ℕ, ◌+◌, ◌*◌}
 use Rattle.field.proofs.Laws.{top_of}
-use borrow.Author.Rules.{rules}
 use Rattle.packet.proofs.header_length.Goals as goal
 
 pub returns : goal.returns

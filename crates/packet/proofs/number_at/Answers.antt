@@ -1,7 +1,6 @@
 use native.Mathlib.Omega.{arith}
 use Rattle.field.proofs.Laws.{low_of}
 use Rattle.packet.proofs.Cases.{number_none, number_empty, number_there}
-use borrow.Author.Rules.{rules}
 use Rattle.packet.proofs.number_at.Goals as goal
 
 pub returns-then-channel_at-eq0 : goal.returns-then-channel_at-eq0

@@ -4,7 +4,6 @@ use Rattle.ground.specs.declared.Refusal.TheVariants.{CHANNEL}
 use Rattle.relay.specs.RelayTests.{relay_line_tests, reliable, relay_channel_tests}
 use Rattle.ground.proofs.Verdicts.{verdict_on, verdict_stop}
 use mathlib.Core.Path.{sym, ◌∙◌}
-use borrow.Author.Rules.{rules}
 use Rattle.relay.proofs.channel_verdict.Goals as goal
 
 pub returns-in-Refuse : goal.returns-in-Refuse

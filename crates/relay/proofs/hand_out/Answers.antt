@@ -1,14 +1,11 @@
 use mathlib.Core.Path.{ap, ◌∙◌}
 use Prim.Native.Nat.{ℕ}
-use mathlib.Core.List.{◌++◌}
-use lib.ListN.{length, drop}
-use Rattle.receiving.specs.Receiving.{next_size, handed_out}
+use lib.ListN.{length}
+use Rattle.receiving.specs.Receiving.{next_size}
 use Rattle.receiving.specs.declared.Receiving.{Receiving}
-use Rattle.line.specs.Line.{receiving_of, with_receiving}
+use Rattle.line.specs.Line.{receiving_of}
 use Rattle.store.specs.declared.Way.TheVariants as way
-use Rattle.store.specs.Store.{octets_in}
 use Rattle.relay.proofs.Lines.{slot_in, hand_first, hand_reliable, hand_steps, hand_cap, hand_room, hand_size}
-use borrow.Author.Rules.{rules}
 use Rattle.relay.proofs.hand_out.Goals as goal
 
 pub next_size-size-requires : goal.next_size-size-requires

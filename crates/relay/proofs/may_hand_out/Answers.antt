@@ -13,7 +13,6 @@ use Rattle.line.specs.Line.{receiving_of}
 use Rattle.relay.specs.RelayTests.{relay_channel_tests}
 use Rattle.relay.specs.HandOut.{hand_call_tests}
 use Rattle.relay.proofs.Lines.{first_in}
-use borrow.Author.Rules.{rules}
 use Rattle.relay.proofs.may_hand_out.Goals as goal
 
 -- the last test of the list: the output holds message R

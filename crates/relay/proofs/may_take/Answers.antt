@@ -5,7 +5,6 @@ use Rattle.sending.specs.Sending.{take_tests}
 use Rattle.relay.specs.RelayTests.{relay_channel_tests}
 use Rattle.relay.specs.Take.{take_call_tests}
 use Rattle.relay.proofs.Lines.{sending_ordered}
-use borrow.Author.Rules.{rules}
 use Rattle.relay.proofs.may_take.Goals as goal
 
 pub may_take-requires : goal.may_take-requires

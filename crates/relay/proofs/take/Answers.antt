@@ -1,16 +1,12 @@
-use mathlib.Core.Path.{ap, ◌∙◌}
+use mathlib.Core.Path.{◌∙◌}
 use Prim.Native.Nat.{ℕ}
 use native.Mathlib.Omega.{arith}
 use lib.ListN.{length}
-use lib.Seq.{sets}
-use Rattle.sending.specs.Sending.{next_place, took_one}
-use Rattle.sending.specs.declared.Sending as side
-use Rattle.line.specs.Line.{sending_of, with_sending}
+use Rattle.sending.specs.Sending.{next_place}
+use Rattle.line.specs.Line.{sending_of}
 use Rattle.line.specs.Figures.{send_window}
 use Rattle.store.specs.declared.Way.TheVariants.{Sending}
-use Rattle.store.specs.Store.{slot_at}
 use Rattle.relay.proofs.Lines.{slot_in, take_reliable, take_size, take_steps, take_cap, take_window, take_place}
-use borrow.Author.Rules.{rules}
 use Rattle.relay.proofs.take.Goals as goal
 
 pub next_place-place-requires : goal.next_place-place-requires

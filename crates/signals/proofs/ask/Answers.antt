@@ -1,9 +1,7 @@
 use Rattle.calls.proofs.Results.{mode_refused, mode_does}
-use Rattle.calls.proofs.FirstTests.{asked_open}
 use Rattle.mode.specs.Acts.{ask_outcome}
 use Rattle.mode.specs.Acts as act
 use mathlib.Core.Path.{ap}
-use borrow.Author.Rules.{rules}
 use Rattle.signals.proofs.ask.Goals as goal
 
 pub returns-in-Refuse : goal.returns-in-Refuse

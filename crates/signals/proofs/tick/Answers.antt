@@ -1,12 +1,10 @@
 use Rattle.mode.specs.Tries.{Tries}
 use Rattle.mode.proofs.TriesSaid.{tick_tries}
 use Rattle.calls.proofs.Results.{mode_refused, mode_does}
-use Rattle.calls.proofs.FirstTests.{asked_open}
 use Rattle.mode.specs.declared.TickStep.{TickStep}
 use Rattle.mode.specs.Acts.{tick_outcome}
 use Rattle.mode.specs.Acts as act
 use mathlib.Core.Path.{sym, ap, subst}
-use borrow.Author.Rules.{rules}
 use Rattle.signals.proofs.tick.Goals as goal
 
 pub returns-in-Refuse : goal.returns-in-Refuse

@@ -2,7 +2,6 @@ use mathlib.Core.Bool.{◌&&◌}
 use lib.Dec.{eqb}
 use Rattle.field.proofs.Laws.{top_of, low_of}
 use Rattle.slip.specs.Slip.{form_fits}
-use borrow.Author.Rules.{rules}
 use Rattle.slip.proofs.form_fits.Goals as goal
 
 pub returns : goal.returns

@@ -1,5 +1,4 @@
 use Rattle.slip.proofs.Writes.{fits_room, slip_stored}
-use borrow.Author.Rules.{rules}
 use Rattle.slip.proofs.put.Goals as goal
 
 pub returns : goal.returns

@@ -1,10 +1,6 @@
-use Prim.Native.Nat.{◌/◌, ◌^◌}
-use native.Mathlib.Omega.{arith}
-use lib.Bits.{mask_lt}
 use lib.Dec.{lit≤}
 use Rattle.field.proofs.Laws.{top_of, mid_of, low_of, bits_join}
 use Rattle.slip.specs.Slip.{slip_at}
-use borrow.Author.Rules.{rules}
 use Rattle.slip.proofs.slip_at.Goals as goal
 
 pub returns : goal.returns

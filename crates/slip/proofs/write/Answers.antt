@@ -1,8 +1,4 @@
-use lib.ListN.{length}
-use Rattle.ground.proofs.Verdicts.{writes_not}
-use Rattle.slip.specs.Slip.{write_tests, slip_octets}
-use Rattle.slip.proofs.Writes.{write_fits, write_done}
-use borrow.Author.Rules.{rules}
+use Rattle.slip.proofs.Writes.{write_done}
 use Rattle.slip.proofs.write.Goals as goal
 
 pub returns-in-Pass : goal.returns-in-Pass

@@ -1,5 +1,4 @@
 use Rattle.writing.specs.Write.{acks_for}
-use borrow.Author.Rules.{rules}
 use Rattle.writing.proofs.acks_for.Goals as goal
 
 pub returns : goal.returns

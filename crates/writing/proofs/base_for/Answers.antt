@@ -1,12 +1,10 @@
 use mathlib.Core.Path.{ap, ◌∙◌}
 use Prim.Native.Nat.{◌%◌}
-use native.Mathlib.Omega.{arith}
-use lib.Bits.{mask_lt, and_mask}
+use lib.Bits.{and_mask}
 use borrow.Author.Tests.{eq-eqb, ne_eqb}
 use Rattle.channel.specs.Channel.{modulus}
 use Rattle.receiving.specs.declared.Receiving.{Receiving}
 use Rattle.writing.specs.Write.{base_for}
-use borrow.Author.Rules.{rules}
 use Rattle.writing.proofs.base_for.Goals as goal
 
 pub returns-then-channel-eq0 : goal.returns-then-channel-eq0

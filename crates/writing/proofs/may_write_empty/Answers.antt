@@ -9,7 +9,6 @@ use lib.Dec.{leb}
 use Prim.Native.Nat.{ℕ}
 use mathlib.Core.List.{List, [], ◌∷◌}
 use mathlib.Core.Path.{sym, ◌∙◌}
-use borrow.Author.Rules.{rules}
 use Rattle.writing.proofs.may_write_empty.Goals as goal
 
 abbrev rest : Line → ℕ → ℕ → List Test

@@ -1,7 +1,6 @@
 use Rattle.writing.specs.Write.{empty_packet}
 use lib.ListN.{length}
 use Rattle.writing.proofs.Packets.{empty_owes, empty_passes, written_out}
-use borrow.Author.Rules.{rules}
 use Rattle.writing.proofs.write_empty.Goals as goal
 
 pub wrote_line-line-requires : goal.wrote_line-line-requires

@@ -1,5 +1,4 @@
 use Rattle.writing.specs.Write.{wrote_line}
-use borrow.Author.Rules.{rules}
 use Rattle.writing.proofs.wrote_line.Goals as goal
 
 pub returns : goal.returns

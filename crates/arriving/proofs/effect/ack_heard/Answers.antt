@@ -6,9 +6,7 @@ use Rattle.sending.specs.Sending.{acked_by}
 use Rattle.sending.specs.declared.Acknowledged.{Acknowledged}
 use Rattle.sending.specs.declared.Sending.{Sending}
 use mathlib.Core.Path.{ap, ◌∙◌}
-use lib.Bits.{mask_lt, and_mask}
-use native.Mathlib.Omega.{arith}
-use borrow.Author.Rules.{rules}
+use lib.Bits.{and_mask}
 use Rattle.arriving.proofs.effect.ack_heard.Goals as goal
 
 pub acknowledged-heard-requires : goal.acknowledged-heard-requires

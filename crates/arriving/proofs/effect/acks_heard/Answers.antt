@@ -3,7 +3,6 @@ use Rattle.arriving.specs.Effect.{acked_line, acked_all}
 use Rattle.line.specs.declared.Line.{Line}
 use native.Mathlib.Omega.{arith}
 use mathlib.Core.Path.{◌≡◌, refl, ap, ◌∙◌}
-use borrow.Author.Rules.{rules}
 use Rattle.arriving.proofs.effect.acks_heard.Goals as goal
 
 pub returns-then-acks-eq0 : goal.returns-then-acks-eq0

@@ -4,7 +4,6 @@ use Rattle.line.specs.Line.{with_sending}
 use Rattle.sending.specs.Sending.{heard_base}
 use Rattle.sending.specs.declared.Sending.{Sending}
 use mathlib.Core.Path.{ap, ◌∙◌}
-use borrow.Author.Rules.{rules}
 use Rattle.arriving.proofs.effect.base_heard.Goals as goal
 
 pub heard_base-next-requires : goal.heard_base-next-requires

@@ -1,4 +1,3 @@
-use Rattle.channel.proofs.Windows.{window_narrow}
 use Rattle.arriving.proofs.Effects.{stored_near, receiving_steps, place_near, same_side, stored_line_lem, stored_part_lem}
 use Rattle.arriving.specs.Effect.{arrival_at}
 use Rattle.relay.proofs.Lines.{slot_in}
@@ -12,7 +11,6 @@ use lib.Seq.{sets}
 use lib.ListN.{length}
 use mathlib.Core.Path.{◌≡◌, sym, ◌∙◌}
 use Prim.Native.Nat.{◌<◌}
-use borrow.Author.Rules.{rules}
 use Rattle.arriving.proofs.effect.payload_stored.Goals as goal
 
 pub place_of-place-requires : goal.place_of-place-requires

@@ -1,8 +1,6 @@
-use Rattle.book.proofs.Turns.{many, lines_on, lines_lost, lines_end}
-use Rattle.book.specs.Book.{lines_fit}
-use lib.ListN.{length, drop}
-use mathlib.Core.Path.{◌≡◌, refl, sym, ◌∙◌}
-use Prim.Native.Nat.{◌≤◌, ◌-◌}
+use Rattle.book.proofs.Turns.{lines_on, lines_lost, lines_end}
+use lib.ListN.{length}
+use mathlib.Core.Path.{◌≡◌, sym, ◌∙◌}
 use native.Mathlib.Omega.{arith}
 use borrow.Author.Tests.{not-true, not-false}
 use borrow.Author.Rules.{rules}

@@ -1,11 +1,11 @@
 use Rattle.book.proofs.Facts.{open_at}
-use Rattle.book.proofs.Once.{Comes, comes_one, comes_end}
-use Rattle.book.proofs.Turns.{many, open_here, open_on, open_end}
+use Rattle.book.proofs.Once.{comes_one, comes_end}
+use Rattle.book.proofs.Turns.{open_here, open_on, open_end}
 use Rattle.book.specs.Marks.{new_in, marked, none}
 use Rattle.book.specs.Book.{identifier_of, open_keys, open_in}
 use lib.ListN.{length, drop}
-use mathlib.Core.Path.{◌≡◌, refl}
-use Prim.Native.Nat.{◌≤◌, ◌-◌, ◌+◌}
+use mathlib.Core.Path.{◌≡◌}
+use Prim.Native.Nat.{◌+◌}
 use native.Mathlib.Omega.{arith}
 use borrow.Author.Rules.{rules}
 use borrow.Author.Tests.{eq-eqb, ne_eqb}
@@ -35,8 +35,8 @@ loop-i-preserved c =
     let len = four_lines in (
       omega arith,
       elim c.if-self-i-eq-OPEN.branch [
-        then-self-i-eq-OPEN w ↦ rw (w.marks-is, w.once-is) (comes_one l.once l.marks t n _ rest (rw (open_here identifier_of ls l.i _ (omega arith) (eq-eqb _ _ w.if-self-i-eq-OPEN.true)) at l.invariant.1))
-      | else-self-i-eq-OPEN w ↦ rw (w.marks-is, w.once-is) (rw (open_on identifier_of ls l.i _ (omega arith) (ne_eqb _ _ w.if-self-i-eq-OPEN.false)) at l.invariant.1)
+        | then-self-i-eq-OPEN w ↦ rw (w.marks-is, w.once-is) (comes_one l.once l.marks t n _ rest (rw (open_here identifier_of ls l.i _ (omega arith) (eq-eqb _ _ w.if-self-i-eq-OPEN.true)) at l.invariant.1))
+        | else-self-i-eq-OPEN w ↦ rw (w.marks-is, w.once-is) (rw (open_on identifier_of ls l.i _ (omega arith) (ne_eqb _ _ w.if-self-i-eq-OPEN.false)) at l.invariant.1)
       ],
     )
 

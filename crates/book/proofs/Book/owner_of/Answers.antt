@@ -1,8 +1,7 @@
-use Rattle.book.proofs.Turns.{many, whose_here, whose_on, whose_end}
-use Rattle.book.specs.Book.{identifier_of, owner_by, owner_from}
-use lib.ListN.{length, drop}
-use mathlib.Core.Path.{◌≡◌, refl, sym, ◌∙◌}
-use Prim.Native.Nat.{◌≤◌, ◌-◌}
+use Rattle.book.proofs.Turns.{whose_here, whose_on, whose_end}
+use Rattle.book.specs.Book.{identifier_of, owner_from}
+use lib.ListN.{length}
+use mathlib.Core.Path.{◌≡◌, sym, ◌∙◌}
 use native.Mathlib.Omega.{arith}
 use borrow.Author.Rules.{rules}
 use Rattle.book.proofs.Book.owner_of.Goals as goal

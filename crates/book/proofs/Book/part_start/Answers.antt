@@ -1,5 +1,4 @@
 use mathlib.Core.Path.{sym}
-use borrow.Author.Rules.{rules}
 use Rattle.book.proofs.Parts.{start_is}
 use Rattle.book.proofs.Book.part_start.Goals as goal
 

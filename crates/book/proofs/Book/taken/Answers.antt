@@ -4,7 +4,6 @@ use Rattle.owed.proofs.Lists.{member_append}
 use Rattle.owed.specs.Owed.{member}
 use mathlib.Core.Path.{sym, ap, ap₂, ◌∙◌}
 use mathlib.Core.Bool.{Bool, ◌||◌}
-use borrow.Author.Rules.{rules}
 use Rattle.book.proofs.Book.taken.Goals as goal
 
 pub returns-in-At : goal.returns-in-At

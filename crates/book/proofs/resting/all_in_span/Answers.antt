@@ -1,8 +1,6 @@
 use Rattle.book.proofs.RestingTurns.{span_on, span_lost, span_end}
-use Rattle.book.specs.Resting.{all_span}
-use lib.ListN.{length, take, drop}
-use mathlib.Core.Path.{◌≡◌, refl, sym, ◌∙◌}
-use Prim.Native.Nat.{◌≤◌, ◌-◌}
+use lib.ListN.{length}
+use mathlib.Core.Path.{◌≡◌, sym, ◌∙◌}
 use native.Mathlib.Omega.{arith}
 use borrow.Author.Rules.{rules}
 use Rattle.book.proofs.resting.all_in_span.Goals as goal

@@ -1,11 +1,11 @@
 use Rattle.book.proofs.Spans.{resting_at}
-use Rattle.book.proofs.Once.{Comes, comes_one, comes_end}
+use Rattle.book.proofs.Once.{comes_one, comes_end}
 use Rattle.book.proofs.RestingTurns.{rest_here, rest_end}
 use Rattle.book.specs.Marks.{new_in, marked}
 use lib.ListN.{length, take, drop, get_or}
-use mathlib.Core.Path.{◌≡◌, refl}
+use mathlib.Core.Path.{◌≡◌}
 use mathlib.Core.Bool.{◌&&◌}
-use Prim.Native.Nat.{◌≤◌, ◌-◌, ◌+◌, ◌<◌}
+use Prim.Native.Nat.{◌+◌, ◌<◌}
 use native.Mathlib.Omega.{arith}
 use borrow.Author.Rules.{rules}
 use Rattle.book.proofs.resting.all_new.Goals as goal

@@ -1,11 +1,9 @@
-use Rattle.book.proofs.RestingLists.{rested_few, rested_full}
-use Rattle.book.specs.Resting.{rests, rested_in}
+use Rattle.book.proofs.RestingLists.{rested_few}
 use Rattle.owed.proofs.Lists.{shift_step}
-use lib.Seq.{paste, paste-zero}
-use lib.ListN.{length, take, drop, get_or, set}
+use lib.ListN.{length, get_or, set}
 use mathlib.Core.Path.{◌≡◌, sym, ap, ◌∙◌}
 use mathlib.Core.List.{List}
-use Prim.Native.Nat.{ℕ, ◌≤◌, ◌-◌, ◌+◌}
+use Prim.Native.Nat.{ℕ, ◌+◌}
 use native.Mathlib.Omega.{arith}
 use borrow.Author.Rules.{rules}
 use Rattle.book.proofs.resting.with_one_more.Goals as goal

@@ -1,7 +1,6 @@
-use borrow.Author.Rules.{rules}
 use borrow.Author.Tests.{not-true}
 use native.Mathlib.Omega.{arith}
-use Prim.Native.Nat.{ℕ, ◌≤◌, ◌<◌, ◌-◌, ◌/◌, ◌^◌}
+use Prim.Native.Nat.{ℕ, ◌<◌, ◌/◌, ◌^◌}
 use mathlib.Core.Bool.{Bool, true, false, not}
 use mathlib.Core.List.{List}
 use native.Mathlib.Decide.{dec_lt}
@@ -13,10 +12,9 @@ use Rattle.ground.proofs.Every.{every_all, every_not, below_suc}
 use Rattle.places.specs.Places.{mask_of, bit_of}
 use Rattle.places.specs.declared.Places.{Places}
 use Rattle.channel.specs.Sizes.{message_fits, size_at, sizes_fit}
-use Rattle.channel.proofs.Distances.{place_lt}
 use Rattle.places.proofs.Bits.{bit_past}
 use Rattle.places.proofs.Masks.{mask_is}
-use Rattle.places.proofs.Walks.{walk_begins, walk_at, walk_on, walk_below, walk_ends}
+use Rattle.places.proofs.Walks.{walk_at, walk_on, walk_below, walk_ends}
 use Rattle.channel.proofs.sizes.sizes_fit.Goals as goal
 use Rattle.channel.proofs.sizes.sizes_fit.Goals.{then-has+else-not-size_fits, else-has}
 
@@ -64,8 +62,8 @@ loop-sizes-preserved c =
       omega (arith, at_loop c.args.set c.loop-sizes.rest c.loop-sizes.i c.args.window _ c.loop-sizes.invariant.1 c.requires.2 c.empty.ensures c.loop-sizes-test.true),
       mask_is _ c.dropped-rest.ensures ∙ walk_on m l.i (mask_of l.rest) l.invariant.1,
       λ j q. below_suc (λ k. size_at a.window a.largest a.sizes m a.origin k ≡ true) l.i l.invariant.2 (elim c.if-has.branch [
-        then-has+else-not-size_fits w ↦ met a.window a.largest a.sizes m a.origin l.i (b ∙ w.if-has.true) w.place-at.ensures w.size_fits.ensures ∙ w.if-not-size_fits.false
-      | else-has w ↦ unmet a.window a.largest a.sizes m a.origin l.i (b ∙ w.if-has.false)
+        | then-has+else-not-size_fits w ↦ met a.window a.largest a.sizes m a.origin l.i (b ∙ w.if-has.true) w.place-at.ensures w.size_fits.ensures ∙ w.if-not-size_fits.false
+        | else-has w ↦ unmet a.window a.largest a.sizes m a.origin l.i (b ∙ w.if-has.false)
       ]) j (omega arith),
     )
 

@@ -4,7 +4,6 @@ use Rattle.calls.proofs.OrderStages.{arrive_stages}
 use Rattle.calls.proofs.Stops.{stops, goes_on}
 use mathlib.Core.List.{[], ◌∷◌}
 use mathlib.Core.Path.{refl, ap, ◌∙◌}
-use borrow.Author.Rules.{rules}
 use Rattle.incoming.proofs.verdicts.may_arrive.Goals as goal
 
 pub returns-in-Refuse : goal.returns-in-Refuse

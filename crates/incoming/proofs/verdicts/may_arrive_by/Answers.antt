@@ -1,6 +1,5 @@
 use mathlib.Core.Path.{◌≡◌, sym, ap, ◌∙◌}
 use native.Mathlib.Omega.{arith}
-use Rattle.book.proofs.Turns.{many}
 use lib.ListN.{length}
 use Rattle.packet.specs.declared.Head.{Head}
 use Rattle.book.specs.Book.{owner_of}

@@ -8,7 +8,6 @@ use Rattle.calls.proofs.Stops.{stops, goes_on}
 use Rattle.ground.specs.Refusal.{verdict}
 use mathlib.Core.List.{[], ◌∷◌}
 use mathlib.Core.Path.{sym, ap, ◌∙◌}
-use borrow.Author.Rules.{rules}
 use Rattle.incoming.proofs.verdicts.may_hand_out.Goals as goal
 
 pub may_hand_out-requires : goal.may_hand_out-requires

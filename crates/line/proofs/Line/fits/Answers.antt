@@ -1,13 +1,6 @@
 use mathlib.Core.Path.{ap, sym, ◌∙◌}
 use borrow.Author.Tests.{eq-eqb, ne_eqb}
-use Rattle.mode.specs.Fit.{modes_fit}
-use Rattle.sending.specs.Sending.{sending_fits}
-use Rattle.receiving.specs.Receiving.{receiving_fits}
-use Rattle.owed.specs.Owed.{owed_fits}
-use Rattle.line.specs.Line.{is_open}
-use Rattle.line.specs.Figures.{send_window, receive_window, send_largest, receive_largest}
-use Rattle.line.specs.Fit.{settings_fit, settings_of, line_fits}
-use borrow.Author.Rules.{rules}
+use Rattle.line.specs.Fit.{settings_fit, line_fits}
 use Rattle.line.proofs.Line.fits.Goals as goal
 
 pub returns-then-self-ne-OPEN : goal.returns-then-self-ne-OPEN

@@ -1,6 +1,5 @@
 use Rattle.line.specs.Line.{line_with}
 use Rattle.line.specs.Mode.{stepped_to}
-use borrow.Author.Rules.{rules}
 use Rattle.line.proofs.Line.stepped.Goals as goal
 
 pub returns-in-Stay : goal.returns-in-Stay

@@ -1,6 +1,5 @@
 -- `Modes::moved` meets its contract: the two fields that are worked out are those of the definition.
 -- Assumes nothing.
-use borrow.Author.Rules.{rules}
 use Rattle.mode.specs.Moved.{moved}
 use Rattle.mode.proofs.Modes.moved.Goals as goal
 

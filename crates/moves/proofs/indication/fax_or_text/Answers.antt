@@ -1,6 +1,5 @@
 -- `fax_or_text` meets its contract: the choice for fax and text is that for v.
 -- Assumes nothing.
-use borrow.Author.Rules.{rules}
 use Rattle.mode.specs.Given.{fax_or_text}
 use Rattle.moves.proofs.indication.fax_or_text.Goals as goal
 

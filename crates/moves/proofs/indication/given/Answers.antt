@@ -1,6 +1,5 @@
 -- `given` meets its contract: each return is one row of the table.
 -- Assumes nothing.
-use borrow.Author.Rules.{rules}
 use borrow.Author.Tests.{eq-eqb, ne_eqb}
 use Rattle.mode.specs.Given.{given}
 use Rattle.moves.proofs.indication.given.Goals as goal

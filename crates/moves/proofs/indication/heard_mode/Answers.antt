@@ -1,6 +1,5 @@
 -- `heard_mode` meets its contract: outside recovery the table, in recovery a.
 -- Assumes nothing.
-use borrow.Author.Rules.{rules}
 use borrow.Author.Tests.{eq-eqb, ne_eqb}
 use Rattle.mode.specs.Indication.{heard_mode}
 use Rattle.moves.proofs.indication.heard_mode.Goals as goal

@@ -1,6 +1,5 @@
 -- `heard_modes` meets its contract: the two cases are those of the definition.
 -- Assumes nothing.
-use borrow.Author.Rules.{rules}
 use Rattle.mode.specs.Indication.{heard_modes}
 use Rattle.moves.proofs.indication.heard_modes.Goals as goal
 

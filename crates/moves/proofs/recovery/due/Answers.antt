@@ -1,7 +1,6 @@
 -- `due` meets its contract: the three returns are an ended line, before recovery, and in it.
 -- Assumes nothing.
 use borrow.Author.Tests.{eq-eqb, ne_eqb}
-use borrow.Author.Rules.{rules}
 use Rattle.mode.specs.Recovery.{due}
 use Rattle.moves.proofs.recovery.due.Goals as goal
 

@@ -1,7 +1,6 @@
 -- `tick` meets its contract: by the verdict, the effect or the refusal, and the same in numbers.
 -- Assumes nothing.
 use mathlib.Core.Path.{ap, ◌∙◌}
-use borrow.Author.Rules.{rules}
 use Rattle.ground.proofs.Settled.{settles-took, settles-refused}
 use Rattle.mode.specs.declared.Modes.{Modes}
 use Rattle.mode.specs.Recovery.{tick_step}

@@ -1,10 +1,6 @@
 use borrow.Author.Tests.{not-true, not-false}
 use borrow.Author.Tests.{eq-eqb, ne_eqb}
-use native.Mathlib.Omega.{arith}
-use mathlib.Core.Path.{sym, ◌∙◌}
-use borrow.Author.Rules.{rules}
 use Rattle.mode.specs.Recovery.{ticked_answer}
-use borrow.Author.Tests.{ltb-false}
 use mathlib.Core.Path.{ap}
 use mathlib.Core.Bool.{not}
 use Rattle.moves.proofs.recovery.ticked_answer.Goals as goal

@@ -2,7 +2,6 @@ use borrow.Author.Tests.{not-true, not-false}
 use borrow.Author.Tests.{eq-eqb, ne_eqb}
 use native.Mathlib.Omega.{arith}
 use mathlib.Core.Path.{sym, ◌∙◌}
-use borrow.Author.Rules.{rules}
 use Rattle.mode.specs.Recovery.{ticked_modes}
 use Rattle.mode.proofs.Tries.{due_tries}
 use mathlib.Core.Path.{ap}

@@ -1,7 +1,6 @@
 -- `ask` meets its contract: by the verdict, the effect or the refusal, and the same in numbers.
 -- Assumes nothing.
 use mathlib.Core.Path.{refl}
-use borrow.Author.Rules.{rules}
 use Rattle.mode.specs.Request.{ask_step}
 use Rattle.ground.proofs.Settled.{settles-took, settles-refused}
 use Rattle.mode.specs.declared.AskAnswer.TheVariants.{Mode}

@@ -11,7 +11,6 @@ use Rattle.ground.specs.declared.Verdict.{Verdict}
 use Rattle.ground.specs.Refusal.{settle}
 use mathlib.Core.List.{[], ◌∷◌}
 use mathlib.Core.Path.{refl, sym, ap, ◌∙◌}
-use borrow.Author.Rules.{rules}
 use Rattle.outgoing.proofs.verdicts.may_send.Goals as goal
 
 pub may_send-requires : goal.may_send-requires

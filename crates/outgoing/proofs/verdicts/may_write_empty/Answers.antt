@@ -1,4 +1,3 @@
-use Rattle.calls.proofs.FirstTests.{on_line}
 use Rattle.calls.specs.Stages.{fit_book, line_number}
 use Rattle.book.specs.Book.{line_of}
 use Rattle.writing.specs.Write.{empty_tests}
@@ -7,8 +6,7 @@ use Rattle.calls.proofs.OrderStages.{empty_stages}
 use Rattle.calls.proofs.Stops.{stops, goes_on}
 use Rattle.ground.specs.Refusal.{verdict}
 use mathlib.Core.List.{[], ◌∷◌}
-use mathlib.Core.Path.{sym, ap, ◌∙◌}
-use borrow.Author.Rules.{rules}
+use mathlib.Core.Path.{ap, ◌∙◌}
 use Rattle.outgoing.proofs.verdicts.may_write_empty.Goals as goal
 
 pub returns-in-Refuse : goal.returns-in-Refuse

@@ -1,10 +1,9 @@
 use borrow.Author.Rules.{rules}
 use native.Mathlib.Omega.{arith}
-use Prim.Native.Nat.{ℕ, ◌≤◌, ◌-◌, ◌+◌}
+use Prim.Native.Nat.{ℕ, ◌-◌, ◌+◌}
 use mathlib.Core.List.{List}
 use mathlib.Core.Path.{◌≡◌, sym, ap, ◌∙◌}
-use lib.ListN.{length, drop, get_or, set}
-use lib.Seq.{paste, paste-zero}
+use lib.ListN.{length, get_or, set}
 use Rattle.owed.specs.declared.Owed.{Owed}
 use Rattle.owed.proofs.Lists.{shift_step}
 use Rattle.owed.proofs.Steps.{left_all, left_some}

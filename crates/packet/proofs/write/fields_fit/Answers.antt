@@ -1,5 +1,4 @@
 use Rattle.packet.specs.Write.{fields_fit}
-use borrow.Author.Rules.{rules}
 use Rattle.packet.proofs.write.fields_fit.Goals as goal
 
 pub returns : goal.returns

@@ -1,11 +1,7 @@
-use mathlib.Core.Path.{sym, ◌∙◌}
-use Prim.Native.Nat.{◌+◌}
 use native.Mathlib.Omega.{arith}
-use lib.ListN.{length-take}
 use Rattle.packet.specs.Acks.{ack_list}
 use Rattle.field.proofs.Packs.{Wide}
 use Rattle.packet.proofs.Writes.{wide_take, header_stored}
-use borrow.Author.Rules.{rules}
 use Rattle.packet.proofs.write.put_header.Goals as goal
 
 pub returns : goal.returns

@@ -1,9 +1,5 @@
 use mathlib.Core.Path.{refl}
-use lib.ListN.{length}
-use Rattle.ground.proofs.Verdicts.{writes_not}
-use Rattle.packet.specs.Write.{write_tests, packet_octets}
 use Rattle.packet.proofs.Writes.{write_room, write_done}
-use borrow.Author.Rules.{rules}
 use Rattle.packet.proofs.write.write_packet.Goals as goal
 
 pub put_header-n-requires : goal.put_header-n-requires

@@ -1,9 +1,8 @@
 use mathlib.Core.Bool.{◌&&◌}
 use mathlib.Core.Path.{◌∙◌, sym}
 use lib.Dec.{ltb}
-use borrow.Author.Tests.{not-true, not-false, le-leb, lt-leb}
+use borrow.Author.Tests.{not-false, le-leb, lt-leb}
 use Rattle.packet.proofs.Writes.{packet_length, fits_count}
-use borrow.Author.Rules.{rules}
 use mathlib.Core.Path.{ap}
 use mathlib.Core.Bool.{not}
 use Rattle.packet.proofs.write.write_verdict.Goals as goal

@@ -3,7 +3,7 @@ use native.Mathlib.Omega.{arith}
 use native.Mathlib.Numerals.{add-one}
 use Prim.Native.Nat.{ℕ, ◌<◌, ◌+◌, ◌/◌, ◌^◌}
 use mathlib.Core.Path.{◌≡◌, sym, ap, ◌∙◌}
-use mathlib.Core.Bool.{Bool, true, false, not}
+use mathlib.Core.Bool.{Bool, false, not}
 use lib.Dec.{eqb}
 use Rattle.places.specs.Places.{mask_of, widest, set_below, bit_of}
 use Rattle.places.specs.declared.Places.{Places}
@@ -47,8 +47,8 @@ loop-rest-preserved c =
       omega (arith, k),
       mask_is _ c.dropped-rest.ensures ∙ walk_on m l.i (mask_of l.rest) l.invariant.1,
       rw (add-one l.i) (elim c.if-has.branch [
-        then-has+else-left-eq0 w ↦ omega (arith, w.left-is, set_in m l.i (sym b ∙ w.if-has.true))
-      | else-has w ↦ omega (arith, w.left-is, set_out m l.i (sym b ∙ w.if-has.false))
+        | then-has+else-left-eq0 w ↦ omega (arith, w.left-is, set_in m l.i (sym b ∙ w.if-has.true))
+        | else-has w ↦ omega (arith, w.left-is, set_out m l.i (sym b ∙ w.if-has.false))
       ]),
     )
 

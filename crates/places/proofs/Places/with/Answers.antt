@@ -1,4 +1,3 @@
-use borrow.Author.Rules.{rules}
 use mathlib.Core.Path.{sym, ◌∙◌}
 use Rattle.places.proofs.Bits.{or_bit, one_shl}
 use Rattle.places.specs.Places.{mask_of, set_of}

@@ -1,4 +1,3 @@
-use borrow.Author.Rules.{rules}
 use borrow.Author.Tests.{le-ltb, lt-ltb}
 use Rattle.receiving.specs.Receiving.{arrival_of}
 use Rattle.receiving.proofs.Receiving.arrival.Goals as goal

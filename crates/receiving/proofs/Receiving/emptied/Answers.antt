@@ -1,5 +1,4 @@
 use Rattle.receiving.specs.Receiving.{emptied_receiving}
-use borrow.Author.Rules.{rules}
 use Rattle.receiving.proofs.Receiving.emptied.Goals as goal
 
 -- src/receiving.rt:123:5

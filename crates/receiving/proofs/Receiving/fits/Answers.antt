@@ -1,10 +1,7 @@
-use borrow.Author.Rules.{rules}
 use borrow.Author.Tests.{le-ltb, lt-ltb, le-leb, lt-leb, not-true, not-false}
 use mathlib.Core.Path.{sym, ◌∙◌}
-use native.Mathlib.Omega.{arith}
 use Rattle.receiving.specs.Receiving.{receiving_fits}
 use Rattle.places.specs.Places.{mask_of}
-use Rattle.places.proofs.Bits.{within_lt}
 use Rattle.channel.proofs.NoSizes.{none_within, none_fit}
 use mathlib.Core.Path.{ap}
 use mathlib.Core.Bool.{not}

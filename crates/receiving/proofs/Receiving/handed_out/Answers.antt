@@ -1,4 +1,3 @@
-use borrow.Author.Rules.{rules}
 use Rattle.receiving.specs.Receiving.{handed_out}
 use Rattle.receiving.proofs.Receiving.handed_out.Goals as goal
 

@@ -1,6 +1,3 @@
-use borrow.Author.Rules.{rules}
-use native.Mathlib.Omega.{arith}
-use Rattle.channel.proofs.Distances.{place_lt}
 use Rattle.receiving.specs.Receiving.{stored_at}
 use Rattle.receiving.proofs.Receiving.stored_at.Goals as goal
 

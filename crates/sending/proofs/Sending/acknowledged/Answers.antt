@@ -1,4 +1,3 @@
-use borrow.Author.Rules.{rules}
 use borrow.Author.Tests.{le-ltb, lt-ltb}
 use Rattle.sending.specs.Sending.{acked_by, named_by}
 use Rattle.sending.proofs.Sending.acknowledged.Goals as goal

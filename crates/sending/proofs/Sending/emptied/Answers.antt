@@ -1,5 +1,4 @@
 use Rattle.sending.specs.Sending.{emptied_sending}
-use borrow.Author.Rules.{rules}
 use Rattle.sending.proofs.Sending.emptied.Goals as goal
 
 -- src/sending.rt:140:5

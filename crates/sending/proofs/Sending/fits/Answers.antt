@@ -1,4 +1,3 @@
-use borrow.Author.Rules.{rules}
 use borrow.Author.Tests.{le-ltb, lt-ltb, le-leb, lt-leb, not-true, not-false}
 use mathlib.Core.Path.{sym, ◌∙◌}
 use native.Mathlib.Omega.{arith}
@@ -61,13 +60,12 @@ returns-then-not-within c =
     )
 
 pub sizes_fit-requires : goal.sizes_fit-requires
-sizes_fit-requires c =
-    (
-      c.if-window-self.false,
-      omega arith,
-      lt_of_lt_of_le (within_lt _ _ (sym c.within.ensures ∙ not-false _ (ap not c.if-not-within.false)))
-          (pow_mono c.if-window-n.false),
-    )
+sizes_fit-requires c = (
+  c.if-window-self.false,
+  omega arith,
+  lt_of_lt_of_le (within_lt _ _ (sym c.within.ensures ∙ not-false _ (ap not c.if-not-within.false)))
+      (pow_mono c.if-window-n.false),
+)
 
 pub returns : goal.returns
 unfolding sending_fits

@@ -1,5 +1,4 @@
-use borrow.Author.Rules.{rules}
-use Prim.Native.Nat.{◌<◌, ◌-◌}
+use Prim.Native.Nat.{◌-◌}
 use mathlib.Core.Path.{sym, ap, ◌∙◌}
 use native.Mathlib.Omega.{arith}
 use Rattle.sending.specs.Sending.{held_at, held_of}

@@ -1,7 +1,3 @@
-use borrow.Author.Rules.{rules}
-use native.Mathlib.Omega.{arith}
-use Prim.Native.Nat.{◌-◌}
-use Rattle.channel.proofs.Distances.{place_lt}
 use Rattle.sending.specs.Sending.{took_one}
 use Rattle.sending.proofs.Sending.took.Goals as goal
 

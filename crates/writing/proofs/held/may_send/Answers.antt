@@ -8,7 +8,6 @@ use Rattle.sending.specs.Sending.{held_of}
 use Rattle.relay.proofs.Lines.{sending_steps}
 use Rattle.writing.proofs.Sends.{send_refused, send_nothing, send_room, send_may}
 use Rattle.writing.proofs.Packets.{acks_few}
-use borrow.Author.Rules.{rules}
 use Rattle.writing.proofs.held.may_send.Goals as goal
 
 pub ranked-found-requires : goal.ranked-found-requires

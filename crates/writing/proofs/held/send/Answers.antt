@@ -3,16 +3,15 @@ use Rattle.writing.proofs.Packets.{written_out}
 use Rattle.channel.specs.Channel.{modulus}
 use lib.Bits.{bit_and}
 use mathlib.Core.Path.{◌≡◌, ap, ◌∙◌}
-use Prim.Native.Nat.{◌+◌, ◌-◌, ◌%◌, ◌≤◌}
+use Prim.Native.Nat.{◌+◌, ◌-◌, ◌%◌}
 use Rattle.store.specs.declared.Way.TheVariants as way
 use Rattle.store.specs.Store.{slot_at}
-use Rattle.line.specs.Part.{part_length, region_of}
-use Rattle.writing.proofs.Sends.{send_end, send_owes, send_passes}
+use Rattle.line.specs.Part.{region_of}
+use Rattle.writing.proofs.Sends.{send_owes, send_passes}
 use Rattle.store.specs.declared.Region.{Region}
 use lib.ListN.{length}
-use lib.Bits.{mask_lt, and_mask}
+use lib.Bits.{and_mask}
 use native.Mathlib.Omega.{arith}
-use borrow.Author.Rules.{rules}
 use Rattle.writing.proofs.held.send.Goals as goal
 
 pub wrote_line-line-requires : goal.wrote_line-line-requires
