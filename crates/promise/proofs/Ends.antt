@@ -1,24 +1,19 @@
 -- What holds at all times between the two ends of a line: each end by itself, what its packets say of it, and the flow of each channel each way.
 -- What a packet says is about its writer alone, and stays true as the writer goes on.
 -- Assumes nothing.
-use Prim.Native.Nat.{ℕ, zero, suc, ◌+◌, ◌%◌, ◌≤◌}
+use Prim.Native.Nat.{ℕ, zero, suc, ◌+◌, ◌≤◌}
 use mathlib.Core.Path.{◌≡◌, sym, ◌∙◌, subst, transport}
-use mathlib.Core.Bool.{true, false}
-use mathlib.Core.List.{List, [], ◌∷◌, map}
+use mathlib.Core.Bool.{true}
+use mathlib.Core.List.{List, map}
 use native.Mathlib.Omega.{arith}
 use lib.Dec.{lit≤, eqb}
 use lib.ListN.{length}
-use Rattle.ground.specs.Refusal.{verdict}
-use Rattle.ground.specs.declared.Verdict.TheVariants.{Pass}
 use Rattle.ground.proofs.Picks.{pick-by}
-use Rattle.field.specs.Word.{word_of}
-use Rattle.packet.specs.Acks.{ack_list}
-use Rattle.packet.specs.Read.{head_at, acks_at, payload_of, payload_fits, head_tests, list_tests}
-use Rattle.channel.specs.Channel.{modulus, largest, window_of}
+use Rattle.channel.specs.Channel.{modulus, window_of}
 use Rattle.sending.specs.Sending.{SendingOk, sending_fits}
 use Rattle.receiving.specs.Receiving.{ReceivingOk, receiving_fits}
 use Rattle.flow.proofs.Keeps.{sending_ok, receiving_ok}
-use Rattle.flow.specs.Flow.{Message, Sends, Receives, Have, Flow, Data, Grows}
+use Rattle.flow.specs.Flow.{Message, Sends, Receives, Flow, Data, Grows}
 use Rattle.owed.specs.Owed.{owed_of}
 use Rattle.line.specs.Fit.{line_fits}
 use Rattle.line.specs.Figures.{send_window, receive_window, send_largest, receive_largest}
@@ -33,7 +28,7 @@ use Rattle.relay.proofs.Lines.{channel_span}
 use Rattle.channel.proofs.Windows.{window_narrow}
 use Rattle.promise.specs.Past.{Mark, Packet, Past}
 use Rattle.promise.specs.Run.{Each, bound}
-use Rattle.promise.specs.Notes.{mark, mark_word, HasCome, Names, nothing, reached, Carries, message, Noted}
+use Rattle.promise.specs.Notes.{mark_word, HasCome, Names, nothing, reached, Carries, message, Noted}
 use Rattle.promise.specs.Ends.{sends_of, receives_of}
 use Rattle.promise.proofs.Lists.{each_map}
 

@@ -11,7 +11,6 @@ use Rattle.packet.specs.Acks.{ack_list}
 use Rattle.packet.specs.Write.{packet_octets, write_tests}
 use Rattle.packet.specs.declared.Head.{Head}
 use Rattle.packet.specs.declared.Acks.{Acks}
-use Rattle.packet.specs.declared.HeadReading.TheVariants as head
 use Rattle.roundtrip.proofs.Packets.{head_round, acks_round, payload_round}
 use Rattle.owed.specs.Owed.{owed_of, first_three}
 use Rattle.line.specs.declared.Line.{Line}

@@ -29,7 +29,7 @@ use Rattle.sending.specs.Sending.{held_at, held_of}
 use Rattle.sending.specs.declared.Held.{Held}
 use Rattle.sending.specs.declared.Sending.{Sending}
 use Rattle.flow.proofs.Keeps.{sending_sized}
-use Rattle.flow.specs.Flow.{Message, Full, Data}
+use Rattle.flow.specs.Flow.{Full, Data}
 use Rattle.flow.specs.View.{Slots}
 use Rattle.flow.proofs.Messages.{message_in, message_full}
 use Rattle.flow.proofs.OneWay.{ranked_message}

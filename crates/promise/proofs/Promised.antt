@@ -13,7 +13,6 @@ use Rattle.ground.specs.Pick.{pick}
 use Rattle.places.specs.Places.{mask_of, bit_of}
 use Rattle.channel.specs.Channel.{window_of}
 use Rattle.channel.specs.Distance.{place_of}
-use Rattle.receiving.specs.declared.Receiving.{Receiving}
 use Rattle.flow.specs.Flow.{Full, Have, waiting}
 use Rattle.flow.specs.View.{Slots, message_at, message_of}
 use Rattle.flow.proofs.Flows.{none_or, taken_all}

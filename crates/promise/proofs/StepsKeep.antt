@@ -44,7 +44,7 @@ use Rattle.promise.proofs.PacketArrives.{arrival_joined, arrival_passes}
 use Rattle.promise.proofs.Fresh.{closed_unused, fresh_joined}
 use Rattle.promise.proofs.Phases.{end_of, Open, Phase, closed, unused, relaying, Sound, sound_after, long_after, part_there, is_open_lem, before_kept}
 use Rattle.promise.proofs.OwnLine.{Passes, call_passes, line_left, part_left}
-use Rattle.promise.proofs.CallsKeep.{Left, LeftIn, mine, joined_open, left_in, took_kept, handed_kept, sent_kept, wrote_kept}
+use Rattle.promise.proofs.CallsKeep.{Left, LeftIn, joined_open, left_in, took_kept, handed_kept, sent_kept, wrote_kept}
 use Rattle.promise.proofs.LineStays.{refused_kept, elsewhere_kept, report_kept, opens_kept, moded_kept}
 
 some_member : {A : Type 0} {a : A} {l : List A} → Memᴰ a l → 0 < length l

@@ -45,7 +45,6 @@ use Rattle.promise.specs.Demand2.{Demand2, May}
 use Rattle.promise.specs.Run.{Gateway, Relays}
 use Rattle.receiving.specs.Receiving.{arrival_of, receiving_fits, stored_at}
 use Rattle.refuted.proofs.IdlePackets.{made, made_passes, named}
-use Rattle.refuted.proofs.Rounds.{packet}
 use Rattle.refuted.specs.Quick.{silent_on_repeats}
 use Rattle.refuted.specs.Careless.{dropped, dropping, drops, misplacing, renumbered, reordered, vandals}
 use Rattle.sending.specs.Sending.{heard_base, sending_fits}

@@ -37,7 +37,7 @@ use Rattle.calls.specs.Result.{CallResult, result_of}
 use Rattle.promise.specs.Past.{Past, heard_past}
 use Rattle.promise.specs.Notes.{mark}
 use Rattle.promise.proofs.Phases.{part_there}
-use Rattle.promise.specs.Run.{Gateway, bound, does, after, line_at, part_in, heard, calls, Step, there, Run}
+use Rattle.promise.specs.Run.{Gateway, bound, does, after, line_at, part_in, heard, calls, Step, Run}
 use Rattle.promise.specs.Promise.{receives_by, AllCame}
 use Rattle.promise.specs.Ends.{slots_of, receives_of}
 use Rattle.promise.specs.Demand3.{Serves, Demand3}

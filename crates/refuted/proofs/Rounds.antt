@@ -21,7 +21,6 @@ use Rattle.flow.specs.Flow.{Message, Full}
 use Rattle.line.specs.Line.{receiving_of}
 use Rattle.line.specs.declared.Line.{Line}
 use Rattle.writing.specs.Write.{wrote_line, head_for}
-use Rattle.arriving.specs.Arrive.{carries}
 use Rattle.book.specs.Book.{line_of}
 use Rattle.calls.specs.Call.{Call}
 use Rattle.calls.specs.Call as call
