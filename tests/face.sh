@@ -1,6 +1,7 @@
 #!/usr/bin/env bash
-# No function of the library's face has a `requires`: nobody has to check before a call. And each public function of the library, of the face or
-# not, has a theorem in `laws` that its contract leaves one outcome for one input (RULES 17.1); the words that programs print are no part of it.
+# No function of the library's face has a `requires`, and no type of it a ghost field: nobody has to check before a call. And each public
+# function of the library, of the face or not, has a theorem in `laws` that its contract leaves one outcome for one input (RULES 17.1); the words
+# that programs print are no part of it.
 # The face is every `pub fn` of every library of crates.txt, save the inner ones named here, whose functions may ask for a fact that
 # BOOK's test gives, or a program. A new crate is of the face until it is named, and is named only while it has such a function.
 set -u
@@ -23,39 +24,78 @@ among() {
     return 1
 }
 
-# asking FILE..: the public functions that have a `requires`.
+# asking FILE..: the public functions that have a `requires`, and the public types that have a ghost field: who makes a value of such a type
+# has to show the field.
 asking() {
     awk '
-        /^ *(pub )?(extern "C" )?fn / { open = /^ *pub /; name = $0; sub(/^ */, "", name) }
-        open && /^([^\/]* )?requires( |$)/ { print FILENAME ": " name; open = 0 }
-        /^ *\{ *$/ { open = 0 }' "$@"
+        FNR == 1 { open = type = "" }
+        /^ *(pub )?(const )?(unsafe )?(extern "C" )?fn / { name = $0; sub(/^ */, "", name); open = /^ *pub /; type = "" }
+        open && /^([^\/]* )?requires(\*? |\*?$)/ { print FILENAME ": " name; open = 0; next }
+        open && /\{ *$/ && !/(requires|ensures|ghost)/ { open = 0 }
+        /^ *pub (struct|enum|union) / { type = $0; sub(/^ */, "", type) }
+        type != "" && /^ *ghost / { print FILENAME ": a ghost field of " type; type = "" }
+        /^ *}/ { type = "" }' "$@"
 }
 
 # callable CRATE: the public functions that another crate can call, a method after its type, as Type.method. They stand in lib.rt, or are
 # passed on there from a module of the crate's own.
 callable() {
     awk '
+        # one line for an item that goes over several
+        /^pub use / && !/;/ { item = $0; next }
+        item != "" { item = item " " $0; if (!/;/) next; $0 = item; item = "" }
         /^mod / { sub(/;.*/, ""); own[$2] = 1 }
         /^impl / { type = $2 "." }
         /^}/ { type = "" }
-        /^pub use / { sub(/;.*/, ""); split($3, part, "::"); if (part[1] in own && part[2] ~ /^[a-z]/) print part[2] }
-        /^ *pub fn / { name = $0; sub(/^ *pub fn /, "", name); sub(/\(.*/, "", name); print type name }' "crates/$1/src/lib.rt"
+        /^pub use / {
+            sub(/;.*/, ""); sub(/^pub use /, "")
+            module = $0; sub(/::.*/, "", module)
+            if (!(module in own)) next
+            sub(/^[^{]*::/, ""); gsub(/[{},]/, " ")
+            for (k = 1; k <= NF; k++) {
+                if ($(k + 1) == "as") k += 2
+                if ($k ~ /^[a-z]/) print $k
+            }
+        }
+        /^ *pub (const )?(unsafe )?(extern "C" )?fn / { name = $0; sub(/^.*fn /, "", name); sub(/[(<].*/, "", name); print type name }' "crates/$1/src/lib.rt"
 }
 
-# determined: the functions, as crate.function, of whose contracts a theorem says that they leave one outcome: it is of the type
-# `Determined f.ended f.Reads.Learnt`, where f is brought in by a line `use Rattle·crate.proofs.function` or has another name there.
+# determined: the functions, as crate.function, of whose contracts a theorem says that they leave one outcome: its type is `Determined` of what the
+# toolchain makes of the function, `f.ended` and `f.Reads.Learnt`, and of nothing else, where f is brought in by a line
+# `use Rattle.crate.proofs.function`, perhaps under another name.
 determined() {
     awk '
-        FNR == 1 { delete whose }
-        /^use Rattle·[a-z]+\.proofs\./ {
-            path = $2; sub(/^Rattle·/, "", path); sub(/\.proofs\./, ".", path)
-            name = path; sub(/.*\./, "", name)
-            whose[NF == 4 ? $4 : name] = path
+        # Each line with those that go on with it, which are set in.
+        function made(line,    n, k, words, path, name, last, dotted) {
+            sub(/(^| )--( .*)?$/, "", line)
+            if (line ~ /^use Rattle\.[a-z0-9_]+\.proofs\./) {
+                sub(/^use Rattle\./, "", line); sub(/\.proofs\./, ".", line)
+                path = ""
+                if (line ~ /\{/) { path = line; sub(/\{.*/, "", path); sub(/^[^{]*/, "", line) }
+                gsub(/[{},]/, " ", line)
+                n = split(line, words)
+                for (k = 1; k <= n; k++) {
+                    name = words[k]; sub(/.*\./, "", name)
+                    last = path words[k]
+                    if (words[k + 1] == "as") { name = words[k + 2]; k += 2 }
+                    whose[name] = last
+                }
+            } else if (line ~ /^pub [^ ]+ +: +Determined /) {
+                sub(/^.* : +Determined /, "", line); gsub(/[()]/, " ", line)
+                n = split(line, words); name = ""; dotted = 0
+                for (k = 1; k <= n; k++) {
+                    if (words[k] !~ /\./) continue
+                    last = words[k]; sub(/\..*/, "", last)
+                    if (dotted++ == 0) name = last
+                    if (last != name) return
+                }
+                if (dotted > 1 && words[n] == name ".Reads.Learnt" && name in whose) print whose[name]
+            }
         }
-        $1 == "pub" && $4 == "Determined" {
-            name = $5; sub(/\.ended$/, "", name)
-            if ($6 == name ".Reads.Learnt") print whose[name]
-        }' crates/laws/proofs/*.antt
+        FNR == 1 { made(line); line = ""; delete whose }
+        /^[^ ]/ { made(line); line = $0; next }
+        { line = line " " $0 }
+        END { made(line) }' crates/laws/proofs/*.antt
 }
 
 for crate in "${inner[@]}"; do
@@ -70,7 +110,7 @@ for crate in "${crates[@]}"; do
     mapfile -t files < <(find "crates/$crate/src" -name '*.rt' | sort)
     found=$(asking "${files[@]}")
     if among "$crate" "${inner[@]}"; then
-        [ -n "$found" ] || fail "$crate: named as inner, and no public function of it has a 'requires'"
+        grep -q ': pub .*fn ' <<< "$found" || fail "$crate: named as inner, and no public function of it has a 'requires'"
     else
         looked=$((looked + 1))
         [ -z "$found" ] || fail "$found"

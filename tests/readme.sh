@@ -13,7 +13,8 @@ import sys
 
 blocks = re.findall(r"(?ms)^```(rust|antt)\n(.*?)^```$", pathlib.Path("README.md").read_text())
 kinds = {"rust": "*.rt", "antt": "*.antt"}
-files = {k: {p: p.read_text() for p in sorted(pathlib.Path("crates").rglob(g))} for k, g in kinds.items()}
+# A crate's out/ has copies of its text, which rt keeps there.
+files = {k: {p: p.read_text() for p in sorted(pathlib.Path("crates").rglob(g)) if p.parts[2] != "out"} for k, g in kinds.items()}
 bad = not blocks
 for number, (kind, block) in enumerate(blocks, 1):
     where = [p for p, text in files[kind].items() if "\n" + block in "\n" + text]

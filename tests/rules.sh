@@ -21,8 +21,10 @@ while IFS= read -r number; do
 done < "$work/twice"
 
 # FILE:LINE:NUMBER of each number cited. What is cited has to stand on one line, or it would not be seen.
-places=(crates docs second tests tools)
+places=(docs second tests tools)
 for file in *.md; do places+=("$file"); done
+# Of a crate all but its out/, where rt keeps copies of its text.
+for part in crates/*/*; do [ "${part##*/}" = out ] || places+=("$part"); done
 number='[0-9]+(\.[0-9]+)?'
 grep -rnoE --binary-files=without-match "\<RULES $number((,| and|, and| or| to) $number)*" "${places[@]}" |
     awk -F: '{ n = split($3, words, /[^0-9.]+/); for (k = 1; k <= n; k++) if (words[k] != "") print $1 ":" $2 ":" words[k] }' > "$work/cited"
