@@ -1,5 +1,5 @@
 #!/usr/bin/env bash
-# crates.txt names only what each crate itself calls, cites or has a type of: tools/deps finds no name that is listed and not used.
+# crates.txt lists only what each crate's text names: tools/deps finds no name that is listed without need.
 set -u
 cd "$(dirname "$0")/.." || exit 2
 # shellcheck source=tests/install.bash
