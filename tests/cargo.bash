@@ -1,4 +1,4 @@
-# Sourced, in the top folder, by what builds the second implementation: cargo is there, and builds in target/second, which `rt ci` removes.
+# Sourced, in the top folder, by what builds the second implementation: cargo is there, and builds in target/second.
 # shellcheck source=tests/install.bash
 . tests/install.bash
 need cargo cargo rustc

@@ -10,7 +10,7 @@ fail() { echo "$1"; failed=1; }
 # shellcheck source=tests/run.bash
 . tests/run.bash
 built night
-# The nights run side by side: where the program is emulated each takes half a minute.
+# The nights run side by side.
 seeds=(0 1 2 18446744073709551615)
 for seed in "${seeds[@]}"; do
     run night "$seed" > "$log/$seed" &
