@@ -60,39 +60,37 @@ callable() {
         /^ *pub (const )?(unsafe )?(extern "C" )?fn / { name = $0; sub(/^.*fn /, "", name); sub(/[(<].*/, "", name); print type name }' "crates/$1/src/lib.rt"
 }
 
-# determined: the functions, as crate.function, of whose contracts a theorem says that they leave one outcome: its type is `Determined` of what the
-# toolchain makes of the function, `f.ended` and `f.Reads.Learnt`, and of nothing else, where f is brought in by a line
-# `use Rattle.crate.proofs.function`, perhaps under another name.
+# determined: the functions, as crate.function, of whose contracts a theorem says that they leave one outcome: its type is `Determined C.ended R.Learnt`,
+# where lines `use Rattle.crate.specs.contracts.function` and `use Rattle.crate.proofs.function.Reads` bring in both of one function, under these
+# names or others. The toolchain makes the two of the function's contract.
 determined() {
     awk '
-        # Each line with those that go on with it, which are set in.
-        function made(line,    n, k, words, path, name, last, dotted) {
+        # brought PATH NAME: a module that is brought in under a name.
+        function brought(path, name,    part) {
+            if (path !~ /^Rattle\.[a-z0-9_]+\.(specs\.contracts|proofs)\./) return
+            sub(/^Rattle\./, "", path)
+            if (sub(/\.specs\.contracts\./, ".", path)) contract[name] = path
+            else if (sub(/\.Reads$/, "", path)) { sub(/\.proofs\./, ".", path); reads[name] = path }
+        }
+        # A line, with those after it that are set in and go on with it.
+        function made(line,    n, k, words, path, name) {
             sub(/(^| )--( .*)?$/, "", line)
-            if (line ~ /^use Rattle\.[a-z0-9_]+\.proofs\./) {
-                sub(/^use Rattle\./, "", line); sub(/\.proofs\./, ".", line)
+            if (sub(/^use /, "", line)) {
                 path = ""
                 if (line ~ /\{/) { path = line; sub(/\{.*/, "", path); sub(/^[^{]*/, "", line) }
                 gsub(/[{},]/, " ", line)
                 n = split(line, words)
                 for (k = 1; k <= n; k++) {
                     name = words[k]; sub(/.*\./, "", name)
-                    last = path words[k]
-                    if (words[k + 1] == "as") { name = words[k + 2]; k += 2 }
-                    whose[name] = last
+                    if (words[k + 1] == "as") { brought(path words[k], words[k + 2]); k += 2 } else brought(path words[k], name)
                 }
             } else if (line ~ /^pub [^ ]+ +: +Determined /) {
-                sub(/^.* : +Determined /, "", line); gsub(/[()]/, " ", line)
-                n = split(line, words); name = ""; dotted = 0
-                for (k = 1; k <= n; k++) {
-                    if (words[k] !~ /\./) continue
-                    last = words[k]; sub(/\..*/, "", last)
-                    if (dotted++ == 0) name = last
-                    if (last != name) return
-                }
-                if (dotted > 1 && words[n] == name ".Reads.Learnt" && name in whose) print whose[name]
+                sub(/^.* : +Determined /, "", line)
+                if (split(line, words) == 2 && sub(/\.ended$/, "", words[1]) && sub(/\.Learnt$/, "", words[2]) &&
+                    words[1] in contract && words[2] in reads && contract[words[1]] == reads[words[2]]) print contract[words[1]]
             }
         }
-        FNR == 1 { made(line); line = ""; delete whose }
+        FNR == 1 { made(line); line = ""; delete contract; delete reads }
         /^[^ ]/ { made(line); line = $0; next }
         { line = line " " $0 }
         END { made(line) }' crates/laws/proofs/*.antt
