@@ -1,6 +1,7 @@
 #!/usr/bin/env bash
 # What the README shows of Rattle and antt is proved and run: every block of it stands word for word, line after line, in a file of
-# crates/, and the first is a whole program but for the line that opens its file, which the README says in its text.
+# crates/, and the first is a whole program but for the line that opens its file, which the README says in its text. And it names the toolchain
+# as the file `toolchain` does.
 set -u
 cd "$(dirname "$0")/.." || exit 2
 # shellcheck source=tests/install.bash
@@ -11,7 +12,8 @@ import pathlib
 import re
 import sys
 
-blocks = re.findall(r"(?ms)^```(rust|antt)\n(.*?)^```$", pathlib.Path("README.md").read_text())
+readme = pathlib.Path("README.md").read_text()
+blocks = re.findall(r"(?ms)^```(rust|antt)\n(.*?)^```$", readme)
 kinds = {"rust": "*.rt", "antt": "*.antt"}
 # A crate's out/ has copies of its text, which rt keeps there.
 files = {k: {p: p.read_text() for p in sorted(pathlib.Path("crates").rglob(g)) if p.parts[2] != "out"} for k, g in kinds.items()}
@@ -27,5 +29,8 @@ for number, (kind, block) in enumerate(blocks, 1):
         bad = True
 if not blocks:
     print("README.md shows no program")
+if pathlib.Path("toolchain").read_text().strip() not in readme:
+    print("README.md does not name the toolchain of the file 'toolchain'")
+    bad = True
 sys.exit(bad)
 P
