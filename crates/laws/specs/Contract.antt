@@ -1,5 +1,5 @@
 -- The contract of a function, as the check itself reads it: what it promises of every outcome, and that it leaves one outcome for one input.
--- `Rattle.CRATE.proofs.FUNCTION.ended` is the function's signature and `Rattle.CRATE.proofs.FUNCTION.Reads.Learnt` what a caller learns of its
+-- `Rattle.CRATE.specs.contracts.FUNCTION.ended` is the function's signature and `Rattle.CRATE.proofs.FUNCTION.Reads.Learnt` what a caller learns of its
 -- `ensures` in src/: the toolchain makes both of the function's own text, so that a contract that is changed changes what is asked here.
 -- Assumes nothing.
 use Rattle.std.specs.Prelude.{◌≡◌}
