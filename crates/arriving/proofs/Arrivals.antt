@@ -15,7 +15,7 @@ use Rattle.ground.specs.declared.Verdict.{Verdict}
 use Rattle.ground.specs.declared.Verdict.TheVariants.{Pass, Refuse}
 use Rattle.ground.specs.declared.Refusal.{Refusal}
 use Rattle.ground.proofs.Verdicts.{Holds, passed, verdict_on, verdict_stop}
-use Rattle.ground.proofs.Picks.{pick-by, each}
+use Rattle.ground.proofs.Picks.{pick_by, each}
 use Rattle.field.proofs.Laws.{bits_lt}
 use Rattle.packet.specs.declared.Acks.{Acks}
 use Rattle.packet.specs.declared.AcksReading.{AcksReading}
@@ -63,8 +63,8 @@ module _ (s : List ℕ) where
   pub number_lt : (head_at s).number < 16384
   unfolding head_at number_at
   number_lt =
-      pick-by (λ (n : ℕ). n < 16384) (eqb (channel_at s) 0) (λ _. lit< tt)
-      (λ _. pick-by (λ (n : ℕ). n < 16384) (leb (length s) (header_length s)) (λ _. lit< tt) (λ _. bits_lt s 18 14))
+      pick_by (λ (n : ℕ). n < 16384) (eqb (channel_at s) 0) (λ _. lit< tt)
+      (λ _. pick_by (λ (n : ℕ). n < 16384) (leb (length s) (header_length s)) (λ _. lit< tt) (λ _. bits_lt s 18 14))
 
   pub acks_few : (acks_at s).count ≤ 3
   unfolding acks_at
@@ -124,7 +124,7 @@ module _ (l : Line) (s : List ℕ) (pass : verdict (arrive_tests l s) ≡ Pass) 
   pub arrive_size : length (payload_of s) ≤ receive_largest l
   unfolding size_fits
   arrive_size =
-      pick-by (λ (t : Bool). t ≡ true → length (payload_of s) ≤ receive_largest l) (eqb (channel_at s) 0)
+      pick_by (λ (t : Bool). t ≡ true → length (payload_of s) ≤ receive_largest l) (eqb (channel_at s) 0)
       (λ _ z. let e : length s - header_length s ≡ 0 = eqb-true _ _ z in omega (arith, payload_length s))
       (λ _ z. let e : length s - header_length s ≤ receive_largest l = leb-true _ _ z in omega (arith, payload_length s))
       sized
@@ -133,7 +133,7 @@ module _ (l : Line) (s : List ℕ) (pass : verdict (arrive_tests l s) ≡ Pass) 
   pub arrive_reliable : 0 < length (payload_of s) → reliable (head_at s).channel ≡ true
   unfolding size_fits head_at
   arrive_reliable p =
-      pick-by (λ (t : Bool). t ≡ true → reliable (channel_at s) ≡ true) (eqb (channel_at s) 0)
+      pick_by (λ (t : Bool). t ≡ true → reliable (channel_at s) ≡ true) (eqb (channel_at s) 0)
       (λ _ z. let e : length s - header_length s ≡ 0 = eqb-true _ _ z in absurd (omega (arith, payload_length s)))
       (λ n _. let d : (channel_at s ≡ 0 → ⊥) = eqb-false _ _ n in one_or_two (channel_at s) d below_three)
       sized

@@ -7,7 +7,7 @@ use mathlib.Core.List.{List, [], ◌∷◌}
 use native.Mathlib.Omega.{arith}
 use lib.Dec.{eqb}
 use Rattle.ground.specs.Pick.{pick}
-use Rattle.ground.proofs.Picks.{pick-by, pick-lt}
+use Rattle.ground.proofs.Picks.{pick_by, pick_lt}
 use Rattle.field.specs.Word.{channel_of, number_of}
 use Rattle.places.specs.Places.{mask_of, widest, bit_of}
 use Rattle.channel.specs.Distance.{dist}
@@ -36,8 +36,8 @@ use Rattle.arriving.specs.Effect.{Relaying, heard_line, acked_line, acked_all, o
 pub stored_near : (w : ℕ) (r : Receiving) (n : ℕ) {d : ℕ} → arrival_of w r n ≡ Stored d → d < w
 unfolding arrival_of
 stored_near w r n {d} =
-    pick-lt (λ (a : Arrival). a ≡ Stored d → d < w) (dist n r.next) w
-    (λ q. pick-by (λ (a : Arrival). a ≡ Stored d → d < w) (bit_of (mask_of r.stored) (dist n r.next))
+    pick_lt (λ (a : Arrival). a ≡ Stored d → d < w) (dist n r.next) w
+    (λ q. pick_by (λ (a : Arrival). a ≡ Stored d → d < w) (bit_of (mask_of r.stored) (dist n r.next))
     (λ _ e. absurd (let z : ◌≡◌ {A = ℕ} 0 1 = cc in omega arith))
     (λ _ e. let same : dist n r.next ≡ d = cc in subst (λ (m : ℕ). m < w) same q))
     (λ _ e. absurd (let z : ◌≡◌ {A = ℕ} 0 1 = cc in omega arith))
@@ -77,7 +77,7 @@ module _ (l : Line) (k : Relaying l) where
   pub heard_relaying : (channel base : ℕ) → Relaying (heard_line l channel base)
   unfolding heard_line
   heard_relaying channel base =
-      pick-by Relaying (reliable channel)
+      pick_by Relaying (reliable channel)
       (λ _. sent channel (heard_base (send_window l channel) (sending_of l channel) base) (heard_keeps (send_window l channel) (send_largest l) (window_narrow channel) (sending_of l channel) (sending_side l ok k.inside channel) base))
       (λ _. k)
 

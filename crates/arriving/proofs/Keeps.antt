@@ -12,7 +12,7 @@ use borrow.Author.Tests.{le-leb, ltb-true}
 use Rattle.ground.specs.Refusal.{verdict}
 use Rattle.ground.specs.declared.Verdict.TheVariants.{Pass}
 use Rattle.ground.specs.Pick.{pick}
-use Rattle.ground.proofs.Picks.{pick-by}
+use Rattle.ground.proofs.Picks.{pick_by}
 use Rattle.field.specs.Word.{channel_of, number_of, word_of}
 use Rattle.packet.specs.Acks.{ack_list}
 use Rattle.packet.specs.Read.{head_at, acks_at, payload_of}
@@ -51,11 +51,11 @@ use Rattle.arriving.proofs.Arrivals.{news_relaying, number_lt, arrive_relaying, 
 -- no step changes how many sizes a side has
 heard_sizes : (w : ℕ) (s : Sending) (b : ℕ) → (heard_base w s b).sizes ≡ s.sizes
 unfolding heard_base
-heard_sizes w s b = pick-by (λ (t : Sending). t.sizes ≡ s.sizes) (ltb 0 (dist b s.base) && leb (dist b s.base) (under_way s)) (λ _. refl) (λ _. refl)
+heard_sizes w s b = pick_by (λ (t : Sending). t.sizes ≡ s.sizes) (ltb 0 (dist b s.base) && leb (dist b s.base) (under_way s)) (λ _. refl) (λ _. refl)
 
 acked_sizes : (s : Sending) (n : ℕ) → (acked_by s n).sizes ≡ s.sizes
 unfolding acked_by
-acked_sizes s n = pick-by (λ (t : Sending). t.sizes ≡ s.sizes) (ltb (dist n s.base) (under_way s)) (λ _. refl) (λ _. refl)
+acked_sizes s n = pick_by (λ (t : Sending). t.sizes ≡ s.sizes) (ltb (dist n s.base) (under_way s)) (λ _. refl) (λ _. refl)
 
 arrived_long : (w : ℕ) (r : Receiving) (a : Arrival) (size : ℕ) → length (arrived_as w r a size).sizes ≡ length r.sizes
 unfolding stored_at
@@ -68,7 +68,7 @@ module _ (l : Line) (h : Shaped l) where
   unfolding heard_line
   heard_shaped channel base =
       let s : Sending = sending_of l channel in
-      pick-by Shaped (reliable channel)
+      pick_by Shaped (reliable channel)
       (λ _. with_sending_shaped l h channel (heard_base (send_window l channel) s base) (ap length (heard_sizes (send_window l channel) s base) ∙ sending_long l h channel))
       (λ _. h)
 
@@ -138,7 +138,7 @@ module _ (l : Line) (s : List ℕ) (fits : line_fits l ≡ true) (opened : is_op
   pub arrived_relaying : Relaying (arrived_line l s)
   unfolding arrived_line
   arrived_relaying =
-      pick-by Relaying (carries s)
+      pick_by Relaying (carries s)
       (λ t. stored_relaying (news_line l s) (news_relaying l relaying s) (news_shaped l h s) (head_at s).channel (head_at s).number
       (arrive_reliable l s pass (ltb-true _ _ t)) (number_lt s) (length (payload_of s)) (payload_sized t))
       (λ _. news_relaying l relaying s)
@@ -146,7 +146,7 @@ module _ (l : Line) (s : List ℕ) (fits : line_fits l ≡ true) (opened : is_op
   pub arrived_shaped : Shaped (arrived_line l s)
   unfolding arrived_line
   arrived_shaped =
-      pick-by Shaped (carries s)
+      pick_by Shaped (carries s)
       (λ _. stored_shaped (news_line l s) (news_shaped l h s) (head_at s).channel (head_at s).number (length (payload_of s)))
       (λ _. news_shaped l h s)
 
@@ -167,7 +167,7 @@ stored_part_length l channel number message part =
 pub arrived_part_length : (l : Line) (s part : List ℕ) → length (arrived_part l s part) ≡ length part
 unfolding arrived_part
 arrived_part_length l s part =
-    pick-by (λ (m : List ℕ). length m ≡ length part) (carries s)
+    pick_by (λ (m : List ℕ). length m ≡ length part) (carries s)
     (λ _. stored_part_length l (head_at s).channel (head_at s).number (payload_of s) part)
     (λ _. refl)
 
@@ -208,6 +208,6 @@ module _ (l : Line) (k : Relaying l) (start : ℕ) (store : List ℕ) (inside : 
 pub arrived_store_length : (l : Line) (start : ℕ) (s store : List ℕ) → length (arrived_store l start s store) ≡ length store
 unfolding arrived_store stored_store
 arrived_store_length l start s store =
-    pick-by (λ (m : List ℕ). length m ≡ length store) (carries s)
+    pick_by (λ (m : List ℕ). length m ≡ length store) (carries s)
     (λ _. put_length (receive_window l (head_at s).channel) (receiving_of l (head_at s).channel) (region_in start l way.Receiving (head_at s).channel) (arrival_at l (head_at s).channel (head_at s).number) (payload_of s) store)
     (λ _. refl)

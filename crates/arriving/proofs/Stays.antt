@@ -6,7 +6,7 @@ use mathlib.Core.List.{List}
 use lib.Dec.{eqb}
 use lib.ListN.{length}
 use Rattle.ground.specs.Pick.{pick}
-use Rattle.ground.proofs.Picks.{pick-by}
+use Rattle.ground.proofs.Picks.{pick_by}
 use Rattle.packet.specs.Acks.{ack_list}
 use Rattle.packet.specs.Read.{head_at, acks_at, payload_of}
 use Rattle.receiving.specs.Receiving.{arrival_of}
@@ -36,6 +36,6 @@ module _ (l : Line) (s : List ℕ) where
   pub arrived_stays : SameSettings l (arrived_line l s)
   unfolding arrived_line
   arrived_stays =
-      pick-by (SameSettings l) (carries s)
+      pick_by (SameSettings l) (carries s)
       (λ _. then_same news_only.stays (stored_stays (news_line l s) (head_at s).channel (head_at s).number (length (payload_of s))))
       (λ _. news_only.stays)

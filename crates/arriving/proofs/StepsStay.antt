@@ -4,7 +4,7 @@
 use Prim.Native.Nat.{ℕ}
 use mathlib.Core.Path.{◌≡◌, refl, ◌∙◌}
 use mathlib.Core.List.{List, [], ◌∷◌}
-use Rattle.ground.proofs.Picks.{pick-by}
+use Rattle.ground.proofs.Picks.{pick_by}
 use Rattle.field.specs.Word.{channel_of, number_of}
 use Rattle.sending.specs.Sending.{heard_base, acked_by}
 use Rattle.receiving.specs.Receiving.{arrived_as}
@@ -41,7 +41,7 @@ module _ (l : Line) where
 
   pub heard_news : (channel base : ℕ) → NewsOnly l (heard_line l channel base)
   unfolding heard_line
-  heard_news channel base = pick-by (NewsOnly l) (reliable channel) (λ _. sent_news channel (heard_base (send_window l channel) (sending_of l channel) base)) (λ _. none_news l)
+  heard_news channel base = pick_by (NewsOnly l) (reliable channel) (λ _. sent_news channel (heard_base (send_window l channel) (sending_of l channel) base)) (λ _. none_news l)
 
   pub acked_news : (word : ℕ) → NewsOnly l (acked_line l word)
   unfolding acked_line

@@ -9,7 +9,7 @@ use native.Mathlib.Decide.{dec_lt}
 use lib.Dec.{leb}
 use lib.ListN.{length, get_or, get_or-eq_default}
 use borrow.Author.Tests.{leb-true, le-leb}
-use Rattle.ground.proofs.Picks.{both_true, each, pick-by}
+use Rattle.ground.proofs.Picks.{both_true, each, pick_by}
 use Rattle.owed.specs.Owed.{no_twice}
 use Rattle.book.specs.Resting.{all_span}
 use Rattle.book.specs.Marks.{new_in, marked, none}
@@ -61,7 +61,7 @@ open_span [] f = refl
 open_span (l ∷ ls) f =
     let b = both_true (line_fits l) (lines_fit ls) f in
     let r = open_span ls b.1 in
-    pick-by (λ (xs : List ℕ). all_span xs ≡ true) (is_open l) (λ e. rw (line_span l b.0 e, r)) (λ e. r)
+    pick_by (λ (xs : List ℕ). all_span xs ≡ true) (is_open l) (λ e. rw (line_span l b.0 e, r)) (λ e. r)
 
 -- the open ones are marked, and each that rests finds no mark, exactly if none is there twice
 pub once_is : (b : Book) → lines_fit b.lines ≡ true → all_span (resting_of b) ≡ true

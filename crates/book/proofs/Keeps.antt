@@ -25,7 +25,7 @@ use Rattle.book.specs.Book.{identifier_of, open_in, line_of, with_line, resting_
 use Rattle.book.specs.Closing.{closed_at}
 use Rattle.book.specs.Shape.{BookShaped}
 use Rattle.book.specs.declared.Book.{Book}
-use Rattle.book.proofs.LineAnew.{set-by, lines_set, open_same, open_closed, once_open, once_less}
+use Rattle.book.proofs.LineAnew.{set_by, lines_set, open_same, open_closed, once_open, once_less}
 use Rattle.book.proofs.Facts.{book_ok, ok_book, line_span, line_fits_lem}
 use Rattle.book.proofs.Closing.{closed_resting}
 
@@ -79,7 +79,7 @@ with_line_shaped b s i l k =
     record {
       lines = length-set b.lines i l ∙ s.lines;
       resting = s.resting;
-      each = set-by Shaped b.lines i l closed_line k s.each;
+      each = set_by Shaped b.lines i l closed_line k s.each;
     }
 
 pub closed_shaped_book : (b : Book) → BookShaped b → (i : ℕ) → BookShaped (closed_at b i)
@@ -89,5 +89,5 @@ closed_shaped_book b s i =
     record {
       lines = length-set b.lines i closed_line ∙ s.lines;
       resting = omega (arith, length-append l (drop (length l) b.resting), length-drop (length l) b.resting, rests_most (resting_of b) (line_of b i).identifier, s.resting);
-      each = set-by Shaped b.lines i closed_line closed_line closed_shaped s.each;
+      each = set_by Shaped b.lines i closed_line closed_line closed_shaped s.each;
     }

@@ -22,12 +22,12 @@ use Rattle.book.specs.declared.Owner.{Owner}
 use Rattle.book.specs.declared.Owner.TheVariants.{At}
 
 -- What holds of each line, and of the one put anew, holds of each line then.
-pub set-by {ℓ} : {A : Type 0} (P : A → Type ℓ) (ls : List A) (i : ℕ) (l d : A) → P l → ((j : ℕ) → P (get_or ls j d)) → (j : ℕ) → P (get_or (set ls i l) j d)
-set-by P [] i l d p f j = f j
-set-by P (x ∷ ls) zero l d p f zero = p
-set-by P (x ∷ ls) zero l d p f (suc j) = f (suc j)
-set-by P (x ∷ ls) (suc i) l d p f zero = f zero
-set-by P (x ∷ ls) (suc i) l d p f (suc j) = set-by P ls i l d p (λ k. f (suc k)) j
+pub set_by {ℓ} : {A : Type 0} (P : A → Type ℓ) (ls : List A) (i : ℕ) (l d : A) → P l → ((j : ℕ) → P (get_or ls j d)) → (j : ℕ) → P (get_or (set ls i l) j d)
+set_by P [] i l d p f j = f j
+set_by P (x ∷ ls) zero l d p f zero = p
+set_by P (x ∷ ls) zero l d p f (suc j) = f (suc j)
+set_by P (x ∷ ls) (suc i) l d p f zero = f zero
+set_by P (x ∷ ls) (suc i) l d p f (suc j) = set_by P ls i l d p (λ k. f (suc k)) j
 
 -- A line put anew that fits.
 pub lines_set : (ls : List Line) (i : ℕ) (l : Line) → lines_fit ls ≡ true → line_fits l ≡ true → lines_fit (set ls i l) ≡ true

@@ -10,10 +10,10 @@ use lib.ListN.{length, get_or, set, replicate, length-set}
 use lib.Seq.{get_or-set_same, get_or-set_other}
 use borrow.Author.Tests.{leb-true, eqb-true, eqb-false}
 use Rattle.ground.proofs.Picks.{both_true}
-use Rattle.ground.proofs.Either.{by-test}
+use Rattle.ground.proofs.Either.{by_test}
 use Rattle.owed.specs.Owed.{member, no_twice}
 use Rattle.book.specs.Resting.{all_span}
-use Rattle.book.proofs.RestingTurns.{getD-alike}
+use Rattle.book.proofs.RestingTurns.{get_or_alike}
 use Rattle.book.specs.Marks.{new_in, marked, none}
 
 -- What is still to be seen, after what was found and marked before, comes to t and to the marks n in the end.
@@ -47,7 +47,7 @@ all_new m (x ∷ l) = eqb (get_or m x 0) 0 && all_new m l
 -- a mark more: what stands there is new no longer
 new_set : (m : List ℕ) (x y : ℕ) → x < length m → eqb (get_or (set m x 1) y 0) 0 ≡ (not (eqb y x) && eqb (get_or m y 0) 0)
 new_set m x y h =
-    by-test (eqb y x)
+    by_test (eqb y x)
     (λ e. let q : y ≡ x = eqb-true y x e in rw (e, q, get_or-set_same m x 1 0 h))
     (λ e. rw (e, get_or-set_other m x y 1 0 (eqb-false y x e)))
 
@@ -82,7 +82,7 @@ new_is m (x ∷ l) h s =
 unmarked : (n : ℕ) (l : List ℕ) → all_new (replicate n 0) l ≡ true
 unfolding all_new
 unmarked n [] = refl
-unmarked n (x ∷ l) = rw (getD-alike {A = ℕ} n x 0, unmarked n l)
+unmarked n (x ∷ l) = rw (get_or_alike {A = ℕ} n x 0, unmarked n l)
 
 pub new_once : (l : List ℕ) → all_span l ≡ true → new_in none l ≡ no_twice l
 new_once l s = new_is none l (lit< tt) s ∙ ap (λ (t : Bool). t && no_twice l) (unmarked 128 l)

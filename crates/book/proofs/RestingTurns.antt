@@ -12,10 +12,10 @@ use borrow.Author.Tests.{lt-leb, le-leb}
 use Rattle.book.specs.Resting.{all_span}
 
 -- a list of one element over and over has it everywhere, where it stands for none too
-pub getD-alike {ℓ} : {A : Type ℓ} (n i : ℕ) (a : A) → get_or (replicate n a) i a ≡ a
-getD-alike zero i a = refl
-getD-alike (suc n) zero a = refl
-getD-alike (suc n) (suc i) a = getD-alike n i a
+pub get_or_alike {ℓ} : {A : Type ℓ} (n i : ℕ) (a : A) → get_or (replicate n a) i a ≡ a
+get_or_alike zero i a = refl
+get_or_alike (suc n) zero a = refl
+get_or_alike (suc n) (suc i) a = get_or_alike n i a
 
 -- what is left from place i on: the element there, and what is left behind it
 pub left {ℓ} : {A : Type ℓ} (l : List A) (i : ℕ) (d : A) → i < length l → drop i l ≡ get_or l i d ∷ drop (i + 1) l

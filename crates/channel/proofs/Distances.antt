@@ -4,7 +4,7 @@
 use Prim.Native.Nat.{ℕ, ◌+◌, ◌-◌, ◌%◌, ◌≤◌, ◌<◌}
 use mathlib.Core.Path.{◌≡◌}
 use native.Mathlib.Omega.{arith}
-use Rattle.ground.proofs.Picks.{pick-lt}
+use Rattle.ground.proofs.Picks.{pick_lt}
 use Rattle.channel.specs.Channel.{modulus}
 use Rattle.channel.specs.Distance.{dist, place_of}
 
@@ -35,22 +35,22 @@ never_future w stale k S wide l fresh = omega (arith, dist_down k S l (omega ari
 
 -- A place is one of the window's.
 pub place_lt : (w origin i : ℕ) → origin < w → i ≤ w → place_of origin i w < w
-place_lt w origin i l k = pick-lt (λ (p : ℕ). p < w) (origin + i) w (λ q. q) (λ q. omega arith)
+place_lt w origin i l k = pick_lt (λ (p : ℕ). p < w) (origin + i) w (λ q. q) (λ q. omega arith)
 
 -- two messages of one window have two places
 pub place_once : (w origin i j : ℕ) → origin < w → i < w → j < w → place_of origin i w ≡ place_of origin j w → i ≡ j
 place_once w origin i j l a b =
-    pick-lt (λ (p : ℕ). p ≡ place_of origin j w → i ≡ j) (origin + i) w
-    (λ q. pick-lt (λ (p : ℕ). origin + i ≡ p → i ≡ j) (origin + j) w (λ s e. omega arith) (λ s e. omega arith))
-    (λ q. pick-lt (λ (p : ℕ). origin + i - w ≡ p → i ≡ j) (origin + j) w (λ s e. omega arith) (λ s e. omega arith))
+    pick_lt (λ (p : ℕ). p ≡ place_of origin j w → i ≡ j) (origin + i) w
+    (λ q. pick_lt (λ (p : ℕ). origin + i ≡ p → i ≡ j) (origin + j) w (λ s e. omega arith) (λ s e. omega arith))
+    (λ q. pick_lt (λ (p : ℕ). origin + i - w ≡ p → i ≡ j) (origin + j) w (λ s e. omega arith) (λ s e. omega arith))
 
 -- a message stays in its place when the oldest moves on
 pub place_stays : (w origin d i : ℕ) → origin < w → d + i ≤ w → place_of (place_of origin d w) i w ≡ place_of origin (d + i) w
 place_stays w origin d i l k =
-    pick-lt (λ (p : ℕ). place_of p i w ≡ place_of origin (d + i) w) (origin + d) w
-    (λ q. pick-lt (λ (p : ℕ). p ≡ place_of origin (d + i) w) (origin + d + i) w
-    (λ s. pick-lt (λ (p : ℕ). origin + d + i ≡ p) (origin + (d + i)) w (λ t. omega arith) (λ t. absurd (omega arith)))
-    (λ s. pick-lt (λ (p : ℕ). origin + d + i - w ≡ p) (origin + (d + i)) w (λ t. absurd (omega arith)) (λ t. omega arith)))
-    (λ q. pick-lt (λ (p : ℕ). p ≡ place_of origin (d + i) w) (origin + d - w + i) w
-    (λ s. pick-lt (λ (p : ℕ). origin + d - w + i ≡ p) (origin + (d + i)) w (λ t. absurd (omega arith)) (λ t. omega arith))
+    pick_lt (λ (p : ℕ). place_of p i w ≡ place_of origin (d + i) w) (origin + d) w
+    (λ q. pick_lt (λ (p : ℕ). p ≡ place_of origin (d + i) w) (origin + d + i) w
+    (λ s. pick_lt (λ (p : ℕ). origin + d + i ≡ p) (origin + (d + i)) w (λ t. omega arith) (λ t. absurd (omega arith)))
+    (λ s. pick_lt (λ (p : ℕ). origin + d + i - w ≡ p) (origin + (d + i)) w (λ t. absurd (omega arith)) (λ t. omega arith)))
+    (λ q. pick_lt (λ (p : ℕ). p ≡ place_of origin (d + i) w) (origin + d - w + i) w
+    (λ s. pick_lt (λ (p : ℕ). origin + d - w + i ≡ p) (origin + (d + i)) w (λ t. absurd (omega arith)) (λ t. omega arith))
     (λ s. absurd (omega arith)))

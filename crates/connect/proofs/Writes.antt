@@ -18,7 +18,7 @@ use Rattle.ground.specs.Answer.{Writes}
 use Rattle.ground.specs.declared.Verdict.{Verdict}
 use Rattle.ground.specs.declared.Verdict.TheVariants.{Pass}
 use Rattle.ground.specs.declared.WriteAnswer.TheVariants.{Wrote}
-use Rattle.ground.proofs.Picks.{each, both_true, pick-by}
+use Rattle.ground.proofs.Picks.{each, both_true, pick_by}
 use Rattle.ground.proofs.Verdicts.{Holds, passed}
 use Rattle.field.specs.Layout.{Field, of, word_octets, join, packed, InWidth}
 use Rattle.field.proofs.Laws.{join_is, chain}
@@ -90,9 +90,9 @@ module _ (c : Connect) where
   pub sizes_small : sizes_fit c ≡ true → Small c.transmit × Small c.receive
   unfolding sizes_fit
   sizes_small =
-      pick-by (λ (t : Bool). t ≡ true → Small c.transmit × Small c.receive) (eqb c.compression 1)
+      pick_by (λ (t : Bool). t ≡ true → Small c.transmit × Small c.receive) (eqb c.compression 1)
       (λ _ e. let b = both_true (bis_way c.transmit) (nothing c.receive) e in (bis_small c.transmit b.0, none_small c.receive b.1))
-      (λ _. pick-by (λ (t : Bool). t ≡ true → Small c.transmit × Small c.receive) (eqb c.compression 2)
+      (λ _. pick_by (λ (t : Bool). t ≡ true → Small c.transmit × Small c.receive) (eqb c.compression 2)
       (λ _ e. let b = both_true (rich_way c.transmit) (rich_way c.receive) e in (rich_small c.transmit b.0, rich_small c.receive b.1))
       (λ _ e. let b = both_true (nothing c.transmit) (nothing c.receive) e in (none_small c.transmit b.0, none_small c.receive b.1)))
 
@@ -204,12 +204,12 @@ module _ (c : Connect) where
 -- no more than nine words
 pub half_size : (c : ℕ) {n : ℕ} → n ≡ size_of c → n / 2 ≤ 9
 unfolding size_of
-half_size c e = rw e (pick-by (λ (n : ℕ). n / 2 ≤ 9) (eqb c 1) (λ _. lit≤ tt) (λ _. pick-by (λ (n : ℕ). n / 2 ≤ 9) (eqb c 2) (λ _. lit≤ tt) (λ _. lit≤ tt)))
+half_size c e = rw e (pick_by (λ (n : ℕ). n / 2 ≤ 9) (eqb c 1) (λ _. lit≤ tt) (λ _. pick_by (λ (n : ℕ). n / 2 ≤ 9) (eqb c 2) (λ _. lit≤ tt) (λ _. lit≤ tt)))
 
 -- and no fewer than eight octets
 pub size_least : (c : ℕ) → 8 ≤ size_of c
 unfolding size_of
-size_least c = pick-by (λ (n : ℕ). 8 ≤ n) (eqb c 1) (λ _. lit≤ tt) (λ _. pick-by (λ (n : ℕ). 8 ≤ n) (eqb c 2) (λ _. lit≤ tt) (λ _. lit≤ tt))
+size_least c = pick_by (λ (n : ℕ). 8 ≤ n) (eqb c 1) (λ _. lit≤ tt) (λ _. pick_by (λ (n : ℕ). 8 ≤ n) (eqb c 2) (λ _. lit≤ tt) (λ _. lit≤ tt))
 
 -- all tests before writing pass: then the numbers fit, and what is stored is the body
 module _ (c : Connect) (l : List ℕ) {v : Verdict} (e : v ≡ verdict (write_tests c (length l))) (k : v ≡ Pass) where

@@ -12,7 +12,7 @@ use lib.Pow.{pow_mono, pow_pos, shr_lt, shr_le}
 use borrow.Author.Tests.{leb-true, ltb-true, le-leb, lt-ltb}
 use Rattle.ground.specs.Refusal.{verdict}
 use Rattle.ground.specs.declared.Verdict.TheVariants.{Pass}
-use Rattle.ground.proofs.Picks.{pick-by, pick-lt, both_true, each, together, clash}
+use Rattle.ground.proofs.Picks.{pick_by, pick_lt, both_true, each, together, clash}
 use Rattle.ground.proofs.Verdicts.{passed}
 use Rattle.channel.specs.Channel.{cap}
 use Rattle.channel.specs.Distance.{dist}
@@ -166,7 +166,7 @@ module _ (w z : ℕ) (narrow : w ≤ widest) where
     unfolding heard_base
     heard_keeps b =
         let d = dist b s.base in
-        pick-by (λ u. sending_fits w z u ≡ true) (ltb 0 d && leb d (under_way s))
+        pick_by (λ u. sending_fits w z u ≡ true) (ltb 0 d && leb d (under_way s))
         (λ e. let q : d ≤ under_way s = leb-true _ _ (both_true (ltb 0 d) _ e).1 in
         sending_fits_lem w z (moved_by w s d) (moved_ok s ok d q)
         (rw mask_set (sized_dropped w z s.sizes (mask_of s.unacked) s.origin sized ok.placed d (lt_of_lt_of_le ok.masked (pow_mono ok.windowed)))))
@@ -176,7 +176,7 @@ module _ (w z : ℕ) (narrow : w ≤ widest) where
     unfolding acked_by
     acked_keeps n =
         let d = dist n s.base in
-        pick-by (λ u. sending_fits w z u ≡ true) (ltb d (under_way s))
+        pick_by (λ u. sending_fits w z u ≡ true) (ltb d (under_way s))
         (λ e. sending_fits_lem w z (dropped_at s d) (dropped_ok s ok d) (rw mask_set (sized_without w z s.sizes (mask_of s.unacked) s.origin sized ok.placed d)))
         (λ e. t)
 
@@ -196,8 +196,8 @@ module _ (w z : ℕ) (narrow : w ≤ widest) where
     unfolding arrival_of stored_at
     arrived_keeps n size long f =
         let d = dist n r.next in
-        pick-lt (λ (a : Arrival). receiving_fits w z (arrived_as w r a size) ≡ true) d w
-        (λ q. pick-by (λ (a : Arrival). receiving_fits w z (arrived_as w r a size) ≡ true) (bit_of (mask_of r.stored) d) (λ e. t)
+        pick_lt (λ (a : Arrival). receiving_fits w z (arrived_as w r a size) ≡ true) d w
+        (λ q. pick_by (λ (a : Arrival). receiving_fits w z (arrived_as w r a size) ≡ true) (bit_of (mask_of r.stored) d) (λ e. t)
         (λ e. receiving_fits_lem w z (stored_at w r d size) (stored_ok r okay d size q)
         (rw mask_set (sized_with w z r.sizes (mask_of r.stored) r.origin (receiving_sized w z r t) okay.placed d size q long f))))
         (λ q. t)

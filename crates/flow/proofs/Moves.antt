@@ -14,7 +14,7 @@ use lib.ListN.{length}
 use lib.Pow.{pow_mono}
 use borrow.Author.Tests.{ltb-false, leb-true, le-leb}
 use Rattle.ground.specs.Pick.{pick}
-use Rattle.ground.proofs.Picks.{pick-by, pick-lt, both_true, clash}
+use Rattle.ground.proofs.Picks.{pick_by, pick_lt, both_true, clash}
 use Rattle.channel.specs.Channel.{modulus}
 use Rattle.channel.specs.Distance.{dist, place_of}
 use Rattle.flow.specs.Flow.{Message, Full, first_stays, TakeMove, BaseMove, AckMove, PayloadMove, HandOutMove}
@@ -95,12 +95,12 @@ module _ (w : ℕ) (slot : Slots) (s : Sending) (k : SendingOk w s) where
         go : Dec (b < s.base) → P (pick (ltb 0 d && leb d (under_way s)) (moved_by w s d) s)
         go (yes q) =
             let e : d ≡ modulus - (s.base - b) = dist_down b s.base q (omega (arith, k)) in
-            pick-by P (ltb 0 d && leb d (under_way s))
+            pick_by P (ltb 0 d && leb d (under_way s))
             (λ t. let m : d ≤ under_way s = leb-true _ _ (both_true (ltb 0 d) _ t).1 in absurd (omega (arith, k)))
             (λ t. stays b (omega arith))
         go (no q) =
             let e : d ≡ b - s.base = dist_up b s.base (omega arith) (omega (arith, k)) in
-            pick-by P (ltb 0 d && leb d (under_way s))
+            pick_by P (ltb 0 d && leb d (under_way s))
             (λ t. subst (λ (c : ℕ). P (moved_by w s c)) (sym e) (moved_on b (omega arith) l))
             (λ t. let z : d ≤ 0 = ltb-false 0 d
             (left_false (ltb 0 d) (leb d (under_way s)) t (le-leb d (under_way s) (omega (arith, k)))) in stays b (omega arith))
@@ -108,7 +108,7 @@ module _ (w : ℕ) (slot : Slots) (s : Sending) (k : SendingOk w s) where
     -- hearing an acknowledgement
     pub acked_moves : (n : ℕ) → n < s.taken → s.taken ≤ n + stale → AckMove (sends w slot s) (sends w slot (acked_by s n)) n
     unfolding acked_by
-    acked_moves n l f = pick-lt (λ (t : Sending). AckMove (sends w slot s) (sends w slot t) n) (dist n s.base) (under_way s) gone kept
+    acked_moves n l f = pick_lt (λ (t : Sending). AckMove (sends w slot s) (sends w slot t) n) (dist n s.base) (under_way s) gone kept
       where
         gone : dist n s.base < under_way s → AckMove (sends w slot s) (sends w slot (dropped_at s (dist n s.base))) n
         gone p =
@@ -184,8 +184,8 @@ module _ (w : ℕ) (slot : Slots) (r : Receiving) (k : ReceivingOk w r) where
         → PayloadMove (receives w slot r) (receives w after (arrived_as w r (arrival_of w r n) (length x))) n x
     unfolding arrival_of
     arrived_moves after n x l f long =
-        pick-lt P d w
-        (λ q. pick-by P (bit_of (mask_of r.stored) d)
+        pick_lt P d w
+        (λ q. pick_by P (bit_of (mask_of r.stored) d)
         (λ t u. kept_moves after n x u (λ b. message_full w slot r.sizes (mask_of r.stored) r.origin z k.placed sized roomy
         (n - r.next) (omega arith)
         (ap (bit_of (mask_of r.stored)) (sym (at_distance w stale r.next S wide a g n l f b)) ∙ t)))

@@ -8,7 +8,7 @@ use mathlib.Core.List.{List, [], ◌∷◌, ◌++◌}
 use native.Mathlib.Nat.{sub_self, add-zero}
 use native.Mathlib.Omega.{arith}
 use lib.ListN.{length, take}
-use Rattle.ground.proofs.Picks.{pick-lt}
+use Rattle.ground.proofs.Picks.{pick_lt}
 use Rattle.channel.specs.Channel.{modulus}
 use Rattle.channel.specs.Distance.{place_of}
 use Rattle.flow.specs.Flow.{Message, Full, Have, Flow, Data, waiting}
@@ -32,7 +32,7 @@ pub next_message : (w : ℕ) (slot : Slots) (r : Receiving) → r.origin < w →
 next_message w slot r l t =
     ap (message_of w slot r.sizes (mask_of r.stored) r.origin) (sub_self r.next)
     ∙ message_in w slot r.sizes (mask_of r.stored) r.origin 0 t
-    ∙ ap (message_at slot r.sizes) (pick-lt (λ (p : ℕ). p ≡ r.origin) (r.origin + 0) w (λ q. add-zero r.origin) (λ q. absurd (omega arith)))
+    ∙ ap (message_at slot r.sizes) (pick_lt (λ (p : ℕ). p ≡ r.origin) (r.origin + 0) w (λ q. add-zero r.origin) (λ q. absurd (omega arith)))
 
 -- a held message, found by its rank, is one of h to S - 1, and the view shows its octets
 pub ranked_message : (w : ℕ) (slot : Slots) (s : Sending) (rank i : ℕ) → SendingOk w s → rank_of (mask_of s.unacked) rank ≡ At i

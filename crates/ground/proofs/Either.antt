@@ -6,9 +6,9 @@ use mathlib.Core.Logic.{◌⊎◌, inl, inr}
 use Rattle.ground.proofs.Picks.{clash}
 
 -- a test holds or fails
-pub by-test {ℓ} : {A : Type ℓ} (t : Bool) → (t ≡ true → A) → (t ≡ false → A) → A
-by-test true f g = f refl
-by-test false f g = g refl
+pub by_test {ℓ} : {A : Type ℓ} (t : Bool) → (t ≡ true → A) → (t ≡ false → A) → A
+by_test true f g = f refl
+by_test false f g = g refl
 
 -- where the first fails the second holds, and the other way round: a clause "p, or else q" as a fact
 pub or_second : (a b : Bool) → (a || b) ≡ true → a ≡ false → b ≡ true

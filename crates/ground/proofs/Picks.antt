@@ -14,13 +14,13 @@ pub clash {ℓ} : {A : Type ℓ} → false ≡ true → A
 clash e = absurd (let z : ◌≡◌ {A = ℕ} 0 1 = cc in omega arith)
 
 -- what holds of both choices, each with the test's outcome, holds of the pick
-pub pick-by {ℓ κ} : {A : Type ℓ} (P : A → Type κ) (t : Bool) {a b : A} → (t ≡ true → P a) → (t ≡ false → P b) → P (pick t a b)
-pick-by P true f g = f refl
-pick-by P false f g = g refl
+pub pick_by {ℓ κ} : {A : Type ℓ} (P : A → Type κ) (t : Bool) {a b : A} → (t ≡ true → P a) → (t ≡ false → P b) → P (pick t a b)
+pick_by P true f g = f refl
+pick_by P false f g = g refl
 
 -- the same where the test is an order of two numbers
-pub pick-lt {ℓ κ} : {A : Type ℓ} (P : A → Type κ) (m n : ℕ) {a b : A} → (m < n → P a) → (n ≤ m → P b) → P (pick (ltb m n) a b)
-pick-lt P m n f g = pick-by P (ltb m n) (λ t. f (ltb-true m n t)) (λ t. g (ltb-false m n t))
+pub pick_lt {ℓ κ} : {A : Type ℓ} (P : A → Type κ) (m n : ℕ) {a b : A} → (m < n → P a) → (n ≤ m → P b) → P (pick (ltb m n) a b)
+pick_lt P m n f g = pick_by P (ltb m n) (λ t. f (ltb-true m n t)) (λ t. g (ltb-false m n t))
 
 pub and_false : (a : Bool) → (a && false) ≡ false
 and_false true = refl

@@ -13,7 +13,7 @@ use Rattle.ground.specs.declared.Refusal.{Refusal}
 use Rattle.ground.specs.declared.Verdict.{Verdict}
 use Rattle.ground.specs.declared.Verdict.TheVariants.{Pass, Refuse}
 use Rattle.ground.specs.declared.WriteAnswer.TheVariants.{Wrote, Refused}
-use Rattle.ground.proofs.Settled.{settles-took, settles-refused}
+use Rattle.ground.proofs.Settled.{settles_took, settles_refused}
 
 -- every test of the list holds
 abbrev pub Holds : List Test → Type 0
@@ -38,10 +38,10 @@ passes (t ∷ ts) h = rw h.0 (passes ts h.1)
 -- An answer by a verdict v that the code has worked out, with the paper's number and values. An enum's refusal stands for the refusal's number alone
 module _ {A : Type 0} (answer_of : A → Answer) (refuse : Refusal → A) (alone : (r : Refusal) → answer_of (refuse r) ≡ refused r) {v : Verdict} (ts : List Test) (x : A) (e : v ≡ verdict ts) where
   pub gives_it : {y : A} → v ≡ Pass → y ≡ x → Gives answer_of ts refuse x y
-  gives_it k p = record { is = settles-took (verdict ts) refuse x e k p; answer = settles-took (verdict ts) refused (answer_of x) e k (ap answer_of p) }
+  gives_it k p = record { is = settles_took (verdict ts) refuse x e k p; answer = settles_took (verdict ts) refused (answer_of x) e k (ap answer_of p) }
 
   pub gives_not : {r : Refusal} → v ≡ Refuse r → Gives answer_of ts refuse x (refuse r)
-  gives_not {r} k = record { is = settles-refused (verdict ts) refuse x e k; answer = alone r ∙ settles-refused (verdict ts) refused (answer_of x) e k }
+  gives_not {r} k = record { is = settles_refused (verdict ts) refuse x e k; answer = alone r ∙ settles_refused (verdict ts) refused (answer_of x) e k }
 
 -- and for a call that writes
 module _ {v : Verdict} (ts : List Test) (octets before : List ℕ) (e : v ≡ verdict ts) where

@@ -10,7 +10,7 @@ use Rattle.ground.specs.declared.Refusal.{Refusal}
 use Rattle.ground.specs.declared.Refusal.TheVariants.{NOLINE}
 use Rattle.ground.specs.declared.Verdict.{Verdict}
 use Rattle.ground.specs.declared.Verdict.TheVariants.{Pass, Refuse}
-use Rattle.ground.proofs.Settled.{verdict-of-answer}
+use Rattle.ground.proofs.Settled.{verdict_of_answer}
 use Rattle.ground.proofs.Verdicts.{verdict_on, verdict_stop}
 use Rattle.packet.specs.Read.{head_at, acks_at, head_tests, head_read}
 use Rattle.packet.specs.declared.Acks.{Acks}
@@ -41,7 +41,7 @@ head_in d (head.Refused r) = d
 -- what a head's reading says of its tests
 module _ (s : List ℕ) {r : HeadReading} (e : r ≡ head_read s) where
   pub head_verdict : verdict (head_tests s) ≡ why_head r
-  head_verdict = verdict-of-answer why_head (verdict (head_tests s)) e (λ x. refl) refl
+  head_verdict = verdict_of_answer why_head (verdict (head_tests s)) e (λ x. refl) refl
 
   pub head_passes : {h : Head} → r ≡ head.Says h → verdict (head_tests s) ≡ Pass
   head_passes p = head_verdict ∙ ap why_head p

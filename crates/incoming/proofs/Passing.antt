@@ -13,7 +13,7 @@ use Rattle.ground.specs.declared.Refusal.TheVariants.{NOLINE}
 use Rattle.ground.specs.declared.Verdict.{Verdict}
 use Rattle.ground.specs.declared.Verdict.TheVariants.{Pass, Refuse}
 use Rattle.ground.proofs.Verdicts.{passed, pass_both}
-use Rattle.ground.proofs.Settled.{verdict-of-answer}
+use Rattle.ground.proofs.Settled.{verdict_of_answer}
 use Rattle.packet.specs.Read.{head_at, head_tests}
 use Rattle.receiving.specs.Receiving.{next_size}
 use Rattle.line.specs.Fit.{line_fits}
@@ -85,11 +85,11 @@ addressed b n s e =
 
 module _ (b : Book) (n : ℕ) (s : List ℕ) {r : ArriveVerdict} (e : r ≡ settle (verdict (arrive_order b n s)) arrives.Refused (arrives.Packet (arriving_at (owner_line (packet_line b s)) s))) where
   pub arrive_refuses : {x : Refusal} → r ≡ arrives.Refused x → verdict (arrive_order b n s) ≡ Refuse x
-  arrive_refuses p = verdict-of-answer why_arrive (verdict (arrive_order b n s)) e (λ x. refl) refl ∙ ap why_arrive p
+  arrive_refuses p = verdict_of_answer why_arrive (verdict (arrive_order b n s)) e (λ x. refl) refl ∙ ap why_arrive p
 
   module _ {a : Arriving} (p : r ≡ arrives.Packet a) where
     pub arrive_passes : verdict (arrive_order b n s) ≡ Pass
-    arrive_passes = verdict-of-answer why_arrive (verdict (arrive_order b n s)) e (λ x. refl) refl ∙ ap why_arrive p
+    arrive_passes = verdict_of_answer why_arrive (verdict (arrive_order b n s)) e (λ x. refl) refl ∙ ap why_arrive p
 
     -- what was read is what the octets say
     pub arrive_is : a ≡ arriving_at (owner_line (packet_line b s)) s

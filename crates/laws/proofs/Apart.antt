@@ -14,7 +14,7 @@ use Rattle.ground.specs.Refusal.{verdict}
 use Rattle.ground.specs.declared.Verdict.{Verdict}
 use Rattle.ground.specs.declared.Verdict.TheVariants.{Pass, Refuse}
 use Rattle.ground.proofs.Picks.{clash}
-use Rattle.ground.proofs.Either.{by-test}
+use Rattle.ground.proofs.Either.{by_test}
 use Rattle.packet.specs.Read.{head_at}
 use Rattle.mode.specs.Acts.{outcome}
 use Rattle.line.specs.Line.{is_open}
@@ -109,7 +109,7 @@ opens_none (call.report j channel) l space e = refl
 pub identifier_stays : {b : Book} {store : List ℕ} {i : ℕ} → OpenAt b store i → (k : Call) (out : List ℕ) → is_open (line_of (result_of k b store out).book i) ≡ true
     → (line_of (result_of k b store out).book i).identifier ≡ (line_of b i).identifier
 identifier_stays {b} {store} {i} o k out still =
-    by-test (for_line i (line_of b i).identifier k)
+    by_test (for_line i (line_of b i).identifier k)
     (λ e. go e (verdict (own_tests k (line_of b i) (length out))) refl)
     (λ e. ap (λ (l : Line). l.identifier) (elsewhere_stays b i (line_of b i).identifier (λ _. refl) k store out o.shaped e).line)
   where

@@ -8,7 +8,7 @@ use lib.ListN.{length}
 use borrow.Author.Tests.{eqb-true, not-true}
 use Rattle.ground.specs.Refusal.{verdict}
 use Rattle.ground.specs.declared.Verdict.TheVariants.{Pass}
-use Rattle.ground.proofs.Settled.{settled-by}
+use Rattle.ground.proofs.Settled.{settled_by}
 use Rattle.ground.proofs.Verdicts.{passed}
 use Rattle.mode.specs.Moved.{channels_for}
 use Rattle.mode.specs.Acts.{Act, outcome, after}
@@ -137,7 +137,7 @@ pub every_call_keeps : (c : Call) (b : Book) (store out : List ℕ) → book_fit
     → (book_fits (result_of c b store out).book ≡ true) × BookShaped (result_of c b store out).book
 unfolding result_of
 every_call_keeps c b store out fits shaped =
-    settled-by (λ (d : CallResult). Passes d.book) (verdict (order c b (length store) (length out))) (λ r e. (fits, shaped)) (λ e. done_keeps b fits shaped c store out (sym (in_stages c b (length store) (length out)) ∙ e))
+    settled_by (λ (d : CallResult). Passes d.book) (verdict (order c b (length store) (length out))) (λ r e. (fits, shaped)) (λ e. done_keeps b fits shaped c store out (sym (in_stages c b (length store) (length out)) ∙ e))
 
 -- and the store that is lent stays as long as it was
 effect_length : (c : Call) (i : ℕ) (l : Line) (start : ℕ) (store out : List ℕ) → length (effect c i l start store out).store ≡ length store
@@ -156,6 +156,6 @@ effect_length (call.report j channel) i l start store out = refl
 pub store_length_lem : (c : Call) (b : Book) (store out : List ℕ) → length (result_of c b store out).store ≡ length store
 unfolding result_of accepted_result
 store_length_lem c b store out =
-    settled-by (λ (d : CallResult). length d.store ≡ length store) (verdict (order c b (length store) (length out)))
+    settled_by (λ (d : CallResult). length d.store ≡ length store) (verdict (order c b (length store) (length out)))
     (λ r e. refl)
     (λ e. effect_length c (line_for c b) (line_of b (line_for c b)) (part_start b (line_for c b)) store out)

@@ -8,8 +8,8 @@ use native.Mathlib.Omega.{arith}
 use lib.ListN.{length, drop}
 use Rattle.ground.specs.Refusal.{verdict}
 use Rattle.ground.specs.declared.Verdict.TheVariants.{Pass}
-use Rattle.ground.proofs.Picks.{pick-by}
-use Rattle.ground.proofs.Settled.{settled-by}
+use Rattle.ground.proofs.Picks.{pick_by}
+use Rattle.ground.proofs.Settled.{settled_by}
 use Rattle.line.specs.Part.{part_length}
 use Rattle.relay.specs.Take.{take_call_tests, took_part}
 use Rattle.relay.proofs.Keeps.{took_part_length, took_in_store}
@@ -35,12 +35,12 @@ use Rattle.incoming.proofs.Passing.{addressed}
 pub others_stay : (c : Call) (b : Book) (store out : List ℕ) (j : ℕ) → (line_for c b ≡ j → ⊥) → line_of (result_of c b store out).book j ≡ line_of b j
 unfolding result_of accepted_result
 others_stay c b store out j n =
-    settled-by (λ (d : CallResult). line_of d.book j ≡ line_of b j) (verdict (order c b (length store) (length out)))
+    settled_by (λ (d : CallResult). line_of d.book j ≡ line_of b j) (verdict (order c b (length store) (length out)))
     (λ r e. refl)
     (λ _.
     let i = line_for c b in
     let e = effect c i (line_of b i) (part_start b i) store out in
-    pick-by (λ (a : Book). line_of a j ≡ line_of b j) e.rests (λ _. closed_other b i j n) (λ _. line_other b i e.line j n))
+    pick_by (λ (a : Book). line_of a j ≡ line_of b j) e.rests (λ _. closed_other b i j n) (λ _. line_other b i e.line j n))
 
 -- Line i's part of the store has other octets, as many as before.
 pub record PutIn (b : Book) (i : ℕ) (store after : List ℕ) : Type 0 where
@@ -98,7 +98,7 @@ module _ (c : Call) (b : Book) (store out : List ℕ) (k : BookShaped b) where
   -- whatever the answer
   pub store_puts : Puts b (line_for c b) store after
   unfolding result_of accepted_result
-  store_puts = settled-by (λ (d : CallResult). Puts b (line_for c b) store d.store) (verdict (order c b (length store) (length out))) (λ r e. inl refl) (λ e. puts c b store out (sym (in_stages c b (length store) (length out)) ∙ e) k)
+  store_puts = settled_by (λ (d : CallResult). Puts b (line_for c b) store d.store) (verdict (order c b (length store) (length out))) (λ r e. inl refl) (λ e. puts c b store out (sym (in_stages c b (length store) (length out)) ∙ e) k)
 
   -- THE PROMISE: the part of every other line holds what it held.
   pub parts_stay : (j : ℕ) → (line_for c b ≡ j → ⊥) → part_of b j after ≡ part_of b j store

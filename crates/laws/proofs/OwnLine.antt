@@ -12,8 +12,8 @@ use Rattle.ground.specs.Refusal.{verdict}
 use Rattle.ground.specs.declared.Verdict.{Verdict}
 use Rattle.ground.specs.declared.Verdict.TheVariants.{Pass}
 use Rattle.ground.proofs.Numbers.{number_some}
-use Rattle.ground.proofs.Picks.{pick-by, clash}
-use Rattle.ground.proofs.Settled.{settled-by}
+use Rattle.ground.proofs.Picks.{pick_by, clash}
+use Rattle.ground.proofs.Settled.{settled_by}
 use Rattle.line.specs.Line.{closed_line}
 use Rattle.line.specs.declared.Line.{Line}
 use Rattle.book.specs.Book.{line_of, with_line}
@@ -55,7 +55,7 @@ module _ (c : Call) (b : Book) (store out : List ℕ) where
   -- the answer's number is 0 exactly if all tests pass
   pub accepted_passes : (result_of c b store out).answer.number ≡ 0 → its ≡ Pass
   unfolding result_of
-  accepted_passes = settled-by (λ (d : CallResult). d.answer.number ≡ 0 → its ≡ Pass) (verdict (order c b (length store) (length out))) (λ r e z. absurd (omega (arith, number_some r))) (λ e z. sym (in_stages c b (length store) (length out)) ∙ e)
+  accepted_passes = settled_by (λ (d : CallResult). d.answer.number ≡ 0 → its ≡ Pass) (verdict (order c b (length store) (length out))) (λ r e z. absurd (omega (arith, number_some r))) (λ e z. sym (in_stages c b (length store) (length out)) ∙ e)
 
   module _ (pass : its ≡ Pass) where
     abbrev is_done : result_of c b store out ≡ accepted_result c b store out
@@ -85,7 +85,7 @@ module _ (c : Call) (b : Book) (store out : List ℕ) where
     own_line k =
         let i = line_for c b in
         ap (λ (a : Book). line_of a i) own_book
-        ∙ pick-by (λ (a : Book). line_of a i ≡ own.line) own.rests
+        ∙ pick_by (λ (a : Book). line_of a i ≡ own.line) own.rests
         (λ e. closed_same b i ∙ rests_closed c i (line_of b i) (part_start b i) store out e)
         (λ e. line_same b k i (line_number_lem c b store out pass k) own.line)
 

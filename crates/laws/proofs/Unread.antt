@@ -15,7 +15,7 @@ use Rattle.ground.specs.declared.Refusal.TheVariants.{NOLINE, ROOM, TAKEN, RANGE
 use Rattle.ground.specs.declared.Verdict.{Verdict}
 use Rattle.ground.specs.declared.Verdict.TheVariants.{Pass, Refuse}
 use Rattle.ground.proofs.Picks.{clash}
-use Rattle.ground.proofs.Either.{by-test}
+use Rattle.ground.proofs.Either.{by_test}
 use Rattle.ground.proofs.Verdicts.{verdict_stop}
 use Rattle.packet.specs.Read.{head_at, head_tests}
 use Rattle.line.specs.Fit.{settings_fit}
@@ -206,7 +206,7 @@ module _ (b : Book) (i : ℕ) (o : (line_of b i).opened ≡ 0) (m : Line) (c : m
       → effect k (line_for k b) (line_of b (line_for k b)) (part_start b (line_for k b)) store out ≡ effect k (line_for k b) (line_of other (line_for k b)) (part_start other (line_for k b)) store out
   effect_same k store out e =
       let j = line_for k b in
-      by-test (opens k)
+      by_test (opens k)
       (λ p. opening_whole k p j (line_of b j) (line_of other j) (part_start b j) (part_start other j) store out)
       (λ p. λ t. effect k j (open_same j (pass_open k b (length store) (length out) e p) t) (starts_alike j t) store out)
 

@@ -7,7 +7,7 @@ use native.Mathlib.Omega.{arith}
 use lib.Dec.{lit≤, lit<, eqb}
 use borrow.Author.Tests.{eq-eqb, ne_eqb, eqb-true, eqb-false}
 use Rattle.ground.specs.Pick.{pick}
-use Rattle.ground.proofs.Picks.{each, together, pick-by}
+use Rattle.ground.proofs.Picks.{each, together, pick_by}
 use Rattle.ground.proofs.Either.{or_second, or_either}
 use Rattle.channel.specs.Channel.{largest}
 use Rattle.places.proofs.Masks.{mask_set}
@@ -63,7 +63,7 @@ line_ok l o e =
 pub ok_line : (l : Line) → LineOk l → line_fits l ≡ true
 unfolding line_fits
 ok_line l k =
-    pick-by (λ (t : Bool). t ≡ true) (is_open l)
+    pick_by (λ (t : Bool). t ≡ true) (is_open l)
     (λ _. together (line_tests l) (
       k.settings,
       (k.modes, (k.sending1, (k.sending2, (k.receiving1, (k.receiving2, (k.owed, (or_either (eqb l.modes.local modem) (idle l) (λ e. k.quiet (eqb-false _ _ e)), tt))))))),

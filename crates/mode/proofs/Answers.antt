@@ -8,7 +8,7 @@ use mathlib.Core.List.{[], ◌∷◌}
 use lib.Dec.{eqb}
 use Rattle.ground.specs.Refusal.{verdict}
 use Rattle.ground.specs.declared.Verdict.TheVariants.{Pass}
-use Rattle.ground.proofs.Settled.{settled-took}
+use Rattle.ground.proofs.Settled.{settled_took}
 use Rattle.mode.specs.declared.Modes.{Modes}
 use Rattle.mode.specs.declared.HearStep.{HearStep}
 use Rattle.mode.specs.declared.AskStep.{AskStep}
@@ -38,7 +38,7 @@ pub heard_says : (l : Modes) (k time : ℕ) → verdict (hear_tests l k time) �
     (outcome l (hear k time)).said ≡ accepted (n.local ∷ bit (not (eqb n.remote l.remote)) ∷ [])
 unfolding hear_step
 heard_says l k time e =
-    settled-took (λ (o : HearStep). hear_says o.answer ≡ accepted (o.modes.local ∷ bit (not (eqb o.modes.remote l.remote)) ∷ []))
+    settled_took (λ (o : HearStep). hear_says o.answer ≡ accepted (o.modes.local ∷ bit (not (eqb o.modes.remote l.remote)) ∷ []))
     (verdict (hear_tests l k time)) _ e
     (λ i. accepted (sym (heard_local l k time) i ∷ bit (not (eqb (sym (heard_remote l k time) i) l.remote)) ∷ []))
 
@@ -47,7 +47,7 @@ pub asked_says : (l : Modes) (k time : ℕ) → verdict (ask_tests l k time) ≡
     ((outcome l (ask k time)).said ≡ accepted ((after l (ask k time)).local ∷ [])) × ((after l (ask k time)).local ≡ k)
 unfolding ask_step moved
 asked_says l k time e =
-    settled-took (λ (o : AskStep). (ask_says o.answer ≡ accepted (o.modes.local ∷ [])) × (o.modes.local ≡ k))
+    settled_took (λ (o : AskStep). (ask_says o.answer ≡ accepted (o.modes.local ∷ [])) × (o.modes.local ≡ k))
     (verdict (ask_tests l k time)) _ e (refl, refl)
 
 -- "naming the present mode changes only the time"

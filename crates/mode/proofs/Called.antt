@@ -7,7 +7,7 @@ use native.Mathlib.Omega.{arith}
 use lib.ListN.{take}
 use lib.Seq.{take_all}
 use Rattle.ground.specs.Refusal.{verdict}
-use Rattle.ground.proofs.Settled.{settled-by}
+use Rattle.ground.proofs.Settled.{settled_by}
 use Rattle.mode.specs.declared.Modes.{Modes}
 use Rattle.mode.specs.declared.TickStep.{TickStep}
 use Rattle.mode.specs.Moved.{moved, trying}
@@ -38,7 +38,7 @@ none_called n = append-nil (take n five)
 ticked_counts : (l : Modes) (time : ℕ) → Counts l.tries (called_by (tick_step l time).answer) (tick_step l time).modes.tries
 unfolding tick_step moved trying
 ticked_counts l time =
-    settled-by (λ (o : TickStep). Counts l.tries (called_by o.answer) o.modes.tries) (verdict (tick_tests l time))
+    settled_by (λ (o : TickStep). Counts l.tries (called_by o.answer) o.modes.tries) (verdict (tick_tests l time))
     (λ r e. none_called l.tries)
     (λ e.
     tick_cases (λ t n. Counts l.tries (called_by t) n.tries) l time

@@ -6,8 +6,8 @@ use native.Mathlib.Omega.{arith}
 use lib.Dec.{eqb}
 use borrow.Author.Tests.{eqb-true, eqb-false}
 use Rattle.ground.specs.Refusal.{verdict}
-use Rattle.ground.proofs.Either.{by-test}
-use Rattle.ground.proofs.Settled.{settled-by}
+use Rattle.ground.proofs.Either.{by_test}
+use Rattle.ground.proofs.Settled.{settled_by}
 use Rattle.mode.specs.declared.Modes.{Modes}
 use Rattle.mode.specs.declared.Channels.{Channels}
 use Rattle.mode.specs.declared.Channels.TheVariants.{Stay, Fresh, Emptied}
@@ -31,13 +31,13 @@ pub channels_by : (P : Channels → Type 0) (s s' : ℕ) →
     P (channels_for s s')
 unfolding channels_for
 channels_by P s s' entered left inside outside =
-    by-test (eqb s modem)
+    by_test (eqb s modem)
     (λ a.
-    by-test (eqb s' modem)
+    by_test (eqb s' modem)
     (λ b. rw (a, b) (inside (eqb-true s modem a) (eqb-true s' modem b)))
     (λ b. rw (a, b) (left (eqb-true s modem a) (eqb-false s' modem b))))
     (λ a.
-    by-test (eqb s' modem)
+    by_test (eqb s' modem)
     (λ b. rw (a, b) (entered (eqb-false s modem a) (eqb-true s' modem b)))
     (λ b. rw (a, b) (outside (eqb-false s modem a) (eqb-false s' modem b))))
 
@@ -68,14 +68,14 @@ module _ (s s' : ℕ) where
 pub by_local : (l : Modes) (act : Act) → (outcome l act).channels ≡ channels_for l.local (after l act).local
 unfolding hear_step ask_step tick_step moved trying
 by_local l (hear k time) =
-    settled-by (λ (o : HearStep). o.channels ≡ channels_for l.local o.modes.local) (verdict (hear_tests l k time))
+    settled_by (λ (o : HearStep). o.channels ≡ channels_for l.local o.modes.local) (verdict (hear_tests l k time))
     (λ r e. sym (same_stays l.local))
     (λ e. heard_by (λ n. channels_for l.local (heard_mode l k) ≡ channels_for l.local n.local) l k time (λ a b. refl) (λ a. refl))
 by_local l (ask k time) =
-    settled-by (λ (o : AskStep). o.channels ≡ channels_for l.local o.modes.local) (verdict (ask_tests l k time))
+    settled_by (λ (o : AskStep). o.channels ≡ channels_for l.local o.modes.local) (verdict (ask_tests l k time))
     (λ r e. sym (same_stays l.local))
     (λ e. refl)
 by_local l (tick time) =
-    settled-by (λ (o : TickStep). o.channels ≡ channels_for l.local o.modes.local) (verdict (tick_tests l time))
+    settled_by (λ (o : TickStep). o.channels ≡ channels_for l.local o.modes.local) (verdict (tick_tests l time))
     (λ r e. sym (same_stays l.local))
     (λ e. refl)

@@ -13,7 +13,7 @@ use Rattle.mode.specs.Indication.{hear_step}
 use Rattle.mode.specs.Request.{ask_step}
 use Rattle.ground.specs.Answer.{refused}
 use Rattle.mode.specs.Acts.{Act, hear, ask, outcome, after, run}
-use Rattle.mode.proofs.Steps.{hears, asks, moved_same, after-by, run_keeps, ticked_by}
+use Rattle.mode.proofs.Steps.{hears, asks, moved_same, after_by, run_keeps, ticked_by}
 
 -- "request or indication once ended" is RECOVERY, whatever mode it names, and changes nothing
 module _ (l : Modes) (k time : ℕ) (t : l.last ≤ time) (over : 5 < l.tries) where
@@ -36,7 +36,7 @@ frozen_tries l n f = ap (λ (m : Modes). m.tries) f
 frozen_step : (l : Modes) → 5 < l.tries → (act : Act) → Frozen l (after l act)
 unfolding Frozen stayed
 frozen_step l over =
-    after-by (Frozen l) l refl
+    after_by (Frozen l) l refl
     (λ k time e. let h = hears l k time e in absurd (omega arith))
     (λ k time e. let a = asks l k time e in absurd (omega arith))
     (λ time e. ticked_by (Frozen l) l time (rw (moved_same l time)) (λ a b c. absurd (omega arith)) (λ a b c. absurd (omega arith)) (λ a b. absurd (omega arith)))

@@ -12,7 +12,7 @@ use Rattle.ground.specs.Pick.{bit}
 use Rattle.ground.specs.Refusal.{verdict}
 use Rattle.ground.specs.declared.Verdict.TheVariants.{Pass}
 use Rattle.ground.proofs.Either.{or_second, or_either, or_cases}
-use Rattle.ground.proofs.Picks.{pick-by, both_true, each, together}
+use Rattle.ground.proofs.Picks.{pick_by, both_true, each, together}
 use Rattle.mode.specs.declared.Modes.{Modes}
 use Rattle.mode.specs.Given.{unknown, audio, voiceband, modem, text, offers_vbd, offers_relay, offered}
 use Rattle.mode.specs.Moved.{opened_modes, leaves, moved, trying, timed}
@@ -22,7 +22,7 @@ use Rattle.mode.specs.Request.{ask_tests}
 use Rattle.mode.specs.Recovery.{tick_tests, ticked_modes}
 use Rattle.mode.specs.Acts.{Act, after, run}
 use Rattle.mode.proofs.Givens.{given_by}
-use Rattle.mode.proofs.Steps.{hears, asks, ticks, after-by, run_keeps, heard_by, ticked_by}
+use Rattle.mode.proofs.Steps.{hears, asks, ticks, after_by, run_keeps, heard_by, ticked_by}
 
 -- flags and modes are within their spans, S is offered, S is a in recovery and once ended, and no time is after the line's last
 pub record Fit (l : Modes) : Type 0 where
@@ -121,7 +121,7 @@ modem_serves l m = record { low = lit≤ tt; high = lit≤ tt; voice = λ e. abs
 heard_serves : (l : Modes) (k : ℕ) → Serves l (heard_mode l k)
 unfolding heard_mode
 heard_serves l k =
-    pick-by (Serves l) (eqb l.tries 0)
+    pick_by (Serves l) (eqb l.tries 0)
     (λ t. given_by (Serves l) l k (audio_serves l) (λ h v. voiceband_serves l v) (λ e h. modem_serves l (both_true (offers_relay l) _ h).0))
     (λ t. audio_serves l)
 
@@ -147,10 +147,10 @@ same_serves l f = record { low = f.low; high = f.high; voice = f.voice; relays =
 timed_within : (l : Modes) (s r time : ℕ) → Fit l → l.last ≤ time → (s ≡ r → ⊥) → timed l s r time ≤ time
 unfolding timed
 timed_within l s r time f t d =
-    pick-by (λ n. n ≤ time) (eqb l.local l.remote)
-    (λ a. pick-by (λ n. n ≤ time) (eqb s r) (λ e. absurd (d (eqb-true s r e))) (λ e. omega arith))
+    pick_by (λ n. n ≤ time) (eqb l.local l.remote)
+    (λ a. pick_by (λ n. n ≤ time) (eqb s r) (λ e. absurd (d (eqb-true s r e))) (λ e. omega arith))
     (λ a.
-    pick-by (λ n. n ≤ time) (eqb s r)
+    pick_by (λ n. n ≤ time) (eqb s r)
     (λ e. absurd (d (eqb-true s r e)))
     (λ e. omega (arith, f.begun (eqb-false _ _ a))))
 
@@ -160,7 +160,7 @@ moved_fits l s r time f v far g t =
     record {
       vbd = f.vbd;
       relay = f.relay;
-      left = pick-by (λ n. n ≤ 1) (leaves l.local s) (λ e. lit≤ tt) (λ e. f.left);
+      left = pick_by (λ n. n ≤ 1) (leaves l.local s) (λ e. lit≤ tt) (λ e. f.left);
       low = v.low;
       high = v.high;
       far = far;
@@ -222,7 +222,7 @@ ticked_fits l time f e =
 pub call_keeps : (l : Modes) → modes_fit l ≡ true → (act : Act) → modes_fit (after l act) ≡ true
 call_keeps l e act =
     let f = fit_facts l e in
-    facts_fit (after l act) (after-by Fit l f (λ k time. heard_fits l k time f) (λ k time. asked_fits l k time f) (λ time. ticked_fits l time f) act)
+    facts_fit (after l act) (after_by Fit l f (λ k time. heard_fits l k time f) (λ k time. asked_fits l k time f) (λ time. ticked_fits l time f) act)
 
 pub run_fits : (l : Modes) → modes_fit l ≡ true → (acts : List Act) → modes_fit (run l acts) ≡ true
 run_fits = run_keeps (λ l. modes_fit l ≡ true) call_keeps

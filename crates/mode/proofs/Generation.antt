@@ -7,7 +7,7 @@ use lib.Dec.{eqb}
 use borrow.Author.Tests.{eq-eqb}
 use Rattle.ground.specs.Refusal.{verdict}
 use Rattle.ground.specs.declared.Verdict.TheVariants.{Pass}
-use Rattle.ground.proofs.Settled.{settled-took}
+use Rattle.ground.proofs.Settled.{settled_took}
 use Rattle.mode.specs.declared.Modes.{Modes}
 use Rattle.mode.specs.declared.HearStep.{HearStep}
 use Rattle.mode.specs.declared.AskStep.{AskStep}
@@ -37,7 +37,7 @@ module _ (l : Modes) (k time : ℕ) (e : verdict (hear_tests l k time) ≡ Pass)
   noticed : remote_changed l (after l (hear k time)) ≡ notice l k
   unfolding hear_step
   noticed =
-      settled-took (λ (o : HearStep). remote_changed l o.modes ≡ notice l k) (verdict (hear_tests l k time)) _ e
+      settled_took (λ (o : HearStep). remote_changed l o.modes ≡ notice l k) (verdict (hear_tests l k time)) _ e
       (ap (λ (n : ℕ). not (eqb n l.remote)) (heard_remote l k time))
 
   -- where a notice is to be sent C.5.3.1 asks for an SSE too, but for its exception
@@ -52,5 +52,5 @@ module _ (l : Modes) (k time : ℕ) (e : verdict (hear_tests l k time) ≡ Pass)
 pub request_due : (l : Modes) (k time : ℕ) → verdict (ask_tests l k time) ≡ Pass → indication_due l (after l (ask k time)) ≡ not (eqb k l.local)
 unfolding ask_step moved
 request_due l k time e =
-    settled-took (λ (o : AskStep). indication_due l o.modes ≡ not (eqb k l.local)) (verdict (ask_tests l k time)) _ e
+    settled_took (λ (o : AskStep). indication_due l o.modes ≡ not (eqb k l.local)) (verdict (ask_tests l k time)) _ e
     (rw (eq-eqb l.remote l.remote refl) (without_notice (not (eqb k l.local)) (eqb k l.remote)))

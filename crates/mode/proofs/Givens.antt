@@ -5,12 +5,12 @@ use mathlib.Core.Path.{◌≡◌}
 use mathlib.Core.Bool.{true}
 use lib.Dec.{eqb}
 use borrow.Author.Tests.{eqb-true, eqb-false}
-use Rattle.ground.proofs.Picks.{pick-by}
+use Rattle.ground.proofs.Picks.{pick_by}
 use Rattle.mode.specs.declared.Modes.{Modes}
 use Rattle.mode.specs.Given.{audio, voiceband, modem, offers_vbd, may_relay, as_voiceband, fax_or_text, given}
 
 voiceband_by : (P : ℕ → Type 0) (l : Modes) → P audio → (offers_vbd l ≡ true → P voiceband) → P (as_voiceband l)
-voiceband_by P l a v = pick-by P (offers_vbd l) v (λ e. a)
+voiceband_by P l a v = pick_by P (offers_vbd l) v (λ e. a)
 
 -- whatever is chosen for fax and text, it is a, or v where v is offered
 fax_or_text_by : (P : ℕ → Type 0) (l : Modes) → P audio → (offers_vbd l ≡ true → P voiceband) → P (fax_or_text l)
@@ -25,11 +25,11 @@ pub given_by : (P : ℕ → Type 0) (l : Modes) (k : ℕ) →
     P (given l k)
 unfolding given
 given_by P l k a v m =
-    pick-by P (eqb k audio) (λ e. a)
+    pick_by P (eqb k audio) (λ e. a)
     (λ e.
     let other = eqb-false k audio e in
-    pick-by P (eqb k voiceband) (λ f. voiceband_by P l a (v other))
+    pick_by P (eqb k voiceband) (λ f. voiceband_by P l a (v other))
     (λ f.
-    pick-by P (eqb k modem)
-    (λ g. pick-by P (may_relay l) (m (eqb-true k modem g)) (λ h. voiceband_by P l a (v other)))
+    pick_by P (eqb k modem)
+    (λ g. pick_by P (may_relay l) (m (eqb-true k modem g)) (λ h. voiceband_by P l a (v other)))
     (λ g. fax_or_text_by P l a (v other))))

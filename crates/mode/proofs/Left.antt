@@ -7,14 +7,14 @@ use mathlib.Core.List.{List}
 use native.Mathlib.Omega.{arith}
 use lib.Dec.{eqb}
 use borrow.Author.Tests.{eq-eqb, ne_eqb}
-use Rattle.ground.proofs.Picks.{pick-by, both_true, clash}
+use Rattle.ground.proofs.Picks.{pick_by, both_true, clash}
 use Rattle.mode.specs.declared.Modes.{Modes}
 use Rattle.mode.specs.Given.{audio, modem, offers_relay, has_left}
 use Rattle.mode.specs.Moved.{leaves, moved, trying}
 use Rattle.mode.specs.Indication.{heard_mode}
 use Rattle.mode.specs.Acts.{Act, after, run}
 use Rattle.mode.proofs.Givens.{given_by}
-use Rattle.mode.proofs.Steps.{asks, after-by, run_keeps, heard_by, ticked_by}
+use Rattle.mode.proofs.Steps.{asks, after_by, run_keeps, heard_by, ticked_by}
 
 -- modem relay was left, and is not the mode now
 pub record Gone (l : Modes) : Type 0 where
@@ -25,13 +25,13 @@ pub record Gone (l : Modes) : Type 0 where
 heard_away : (l : Modes) (k : ℕ) → Gone l → heard_mode l k ≡ modem → ⊥
 unfolding heard_mode
 heard_away l k g =
-    pick-by (λ s. s ≡ modem → ⊥) (eqb l.tries 0)
+    pick_by (λ s. s ≡ modem → ⊥) (eqb l.tries 0)
     (λ t. given_by (λ s. s ≡ modem → ⊥) l k (λ e. omega arith) (λ h v e. omega arith) (λ e h. clash (rw (g.left, ne_eqb l.local modem g.away) at (both_true (offers_relay l) _ h).1)))
     (λ t e. omega arith)
 
 moved_gone : (l : Modes) (s r time : ℕ) → Gone l → (s ≡ modem → ⊥) → Gone (moved l s r time)
 unfolding moved
-moved_gone l s r time g h = record { left = pick-by (λ (n : ℕ). eqb n 1 ≡ true) (leaves l.local s) (λ e. refl) (λ e. g.left); away = h }
+moved_gone l s r time g h = record { left = pick_by (λ (n : ℕ). eqb n 1 ≡ true) (leaves l.local s) (λ e. refl) (λ e. g.left); away = h }
 
 trying_gone : (l : Modes) (n time : ℕ) → Gone l → Gone (trying l n time)
 unfolding trying
@@ -43,7 +43,7 @@ asked_away l k g f e = clash (sym (rw (eq-eqb k modem e, g.left) at f))
 -- one call keeps m away
 pub gone_stays : (l : Modes) → Gone l → (act : Act) → Gone (after l act)
 gone_stays l g =
-    after-by Gone l g
+    after_by Gone l g
     (λ k time e.
     let m = moved_gone l (heard_mode l k) k time g (heard_away l k g) in
     heard_by Gone l k time (λ t a. trying_gone _ 0 0 m) (λ t. m))
@@ -77,7 +77,7 @@ pub leaving_marks : (l : Modes) → l.local ≡ modem → (act : Act) → ((afte
 unfolding LeftMarked
 leaving_marks l e act h =
     let m : LeftMarked (after l act) =
-    after-by LeftMarked l (λ f. absurd (f e))
+    after_by LeftMarked l (λ f. absurd (f e))
     (λ k time p.
     let n = moved_marked l (heard_mode l k) k time e in
     heard_by LeftMarked l k time (λ t a. trying_marked _ 0 0 n) (λ t. n))

@@ -7,7 +7,7 @@ use native.Mathlib.Omega.{arith}
 use lib.Dec.{eqb}
 use Rattle.ground.specs.Refusal.{verdict}
 use Rattle.ground.specs.declared.Verdict.TheVariants.{Pass}
-use Rattle.ground.proofs.Picks.{pick-by}
+use Rattle.ground.proofs.Picks.{pick_by}
 use Rattle.mode.specs.declared.Modes.{Modes}
 use Rattle.mode.specs.Given.{audio, voiceband, given}
 use Rattle.mode.specs.Moved.{moved, trying}
@@ -42,7 +42,7 @@ given_permitted l k a b =
 -- so is S after an indication, in recovery too
 pub heard_permitted : (l : Modes) (k : ℕ) → 1 ≤ k → k ≤ 5 → permitted k (heard_mode l k) ≡ true
 unfolding heard_mode
-heard_permitted l k a b = pick-by (λ s. permitted k s ≡ true) (eqb l.tries 0) (λ e. given_permitted l k a b) (λ e. audio_permitted k a b)
+heard_permitted l k a b = pick_by (λ s. permitted k s ≡ true) (eqb l.tries 0) (λ e. given_permitted l k a b) (λ e. audio_permitted k a b)
 
 -- THE PROMISE: where an indication is accepted, Table C.2 permits the local mode that it leaves the line in
 pub indication_permitted : (l : Modes) (k time : ℕ) → verdict (hear_tests l k time) ≡ Pass → permitted k (hear_step l k time).modes.local ≡ true

@@ -10,7 +10,7 @@ use Rattle.ground.specs.declared.Refusal.{Refusal}
 use Rattle.ground.specs.declared.Verdict.{Verdict}
 use Rattle.ground.specs.declared.Verdict.TheVariants.{Pass, Refuse}
 use Rattle.ground.proofs.Numbers.{number_some}
-use Rattle.ground.proofs.Settled.{settled-took}
+use Rattle.ground.proofs.Settled.{settled_took}
 use Rattle.mode.specs.declared.Modes.{Modes}
 use Rattle.mode.specs.declared.Channels.TheVariants.{Stay}
 use Rattle.mode.specs.declared.HearStep.{HearStep}
@@ -49,19 +49,19 @@ unfolding hear_step ask_step tick_step moved
 settles l (hear k time) =
     record {
       taken = λ e. rw e;
-      timed = λ e. settled-took (λ (o : HearStep). o.modes.last ≡ time) (verdict (hear_tests l k time)) _ e (heard_last l k time);
+      timed = λ e. settled_took (λ (o : HearStep). o.modes.last ≡ time) (verdict (hear_tests l k time)) _ e (heard_last l k time);
       refuses = λ r e. rw e;
     }
 settles l (ask k time) =
     record {
       taken = λ e. rw e;
-      timed = λ e. settled-took (λ (o : AskStep). o.modes.last ≡ time) (verdict (ask_tests l k time)) _ e refl;
+      timed = λ e. settled_took (λ (o : AskStep). o.modes.last ≡ time) (verdict (ask_tests l k time)) _ e refl;
       refuses = λ r e. rw e;
     }
 settles l (tick time) =
     record {
       taken = λ e. rw (e, answer_says l time);
-      timed = λ e. settled-took (λ (o : TickStep). o.modes.last ≡ time) (verdict (tick_tests l time)) _ e (ticked_last l time);
+      timed = λ e. settled_took (λ (o : TickStep). o.modes.last ≡ time) (verdict (tick_tests l time)) _ e (ticked_last l time);
       refuses = λ r e. rw e;
     }
 

@@ -10,9 +10,9 @@ use lib.Dec.{eqb, ltb}
 use Rattle.ground.specs.Pick.{pick}
 use Rattle.ground.specs.Refusal.{verdict}
 use Rattle.ground.specs.declared.Verdict.TheVariants.{Pass}
-use Rattle.ground.proofs.Either.{by-test}
-use Rattle.ground.proofs.Picks.{pick-by, both_true, clash}
-use Rattle.ground.proofs.Settled.{settled-by}
+use Rattle.ground.proofs.Either.{by_test}
+use Rattle.ground.proofs.Picks.{pick_by, both_true, clash}
+use Rattle.ground.proofs.Settled.{settled_by}
 use Rattle.ground.proofs.Verdicts.{passed}
 use Rattle.mode.specs.declared.Modes.{Modes}
 use Rattle.mode.specs.declared.TickAnswer.{TickAnswer}
@@ -95,24 +95,24 @@ moved_same l time =
 module _ (P : Modes → Type 0) (l : Modes) (same : P l) where
   pub hear_by : (k time : ℕ) → (verdict (hear_tests l k time) ≡ Pass → P (heard_modes l k time)) → P (hear_step l k time).modes
   unfolding hear_step
-  hear_by k time heard = settled-by (λ (o : HearStep). P o.modes) (verdict (hear_tests l k time)) (λ r e. same) heard
+  hear_by k time heard = settled_by (λ (o : HearStep). P o.modes) (verdict (hear_tests l k time)) (λ r e. same) heard
 
   pub ask_by : (k time : ℕ) → (verdict (ask_tests l k time) ≡ Pass → P (moved l k l.remote time)) → P (ask_step l k time).modes
   unfolding ask_step
-  ask_by k time asked = settled-by (λ (o : AskStep). P o.modes) (verdict (ask_tests l k time)) (λ r e. same) asked
+  ask_by k time asked = settled_by (λ (o : AskStep). P o.modes) (verdict (ask_tests l k time)) (λ r e. same) asked
 
   pub tick_by : (time : ℕ) → (verdict (tick_tests l time) ≡ Pass → P (ticked_modes l time)) → P (tick_step l time).modes
   unfolding tick_step
-  tick_by time ticked = settled-by (λ (o : TickStep). P o.modes) (verdict (tick_tests l time)) (λ r e. same) ticked
+  tick_by time ticked = settled_by (λ (o : TickStep). P o.modes) (verdict (tick_tests l time)) (λ r e. same) ticked
 
-  pub after-by :
+  pub after_by :
       ((k time : ℕ) → verdict (hear_tests l k time) ≡ Pass → P (heard_modes l k time)) →
       ((k time : ℕ) → verdict (ask_tests l k time) ≡ Pass → P (moved l k l.remote time)) →
       ((time : ℕ) → verdict (tick_tests l time) ≡ Pass → P (ticked_modes l time)) →
       (act : Act) → P (after l act)
-  after-by heard asked ticked (hear k time) = hear_by k time (heard k time)
-  after-by heard asked ticked (ask k time) = ask_by k time (asked k time)
-  after-by heard asked ticked (tick time) = tick_by time (ticked time)
+  after_by heard asked ticked (hear k time) = hear_by k time (heard k time)
+  after_by heard asked ticked (ask k time) = ask_by k time (asked k time)
+  after_by heard asked ticked (tick time) = tick_by time (ticked time)
 
 -- what each call keeps, a run of them keeps
 pub run_keeps : (P : Modes → Type 0) → ((l : Modes) → P l → (act : Act) → P (after l act)) → (l : Modes) → P l → (acts : List Act) → P (run l acts)
@@ -127,7 +127,7 @@ pub heard_by : (P : Modes → Type 0) (l : Modes) (k time : ℕ) →
     P (heard_modes l k time)
 unfolding heard_modes
 heard_by P l k time ends stays =
-    pick-by P (ltb 0 l.tries && eqb k audio)
+    pick_by P (ltb 0 l.tries && eqb k audio)
     (λ t. let b = both_true _ _ t in ends (ltb-true _ _ b.0) (eqb-true _ _ b.1))
     (λ t. stays (λ h e. clash (sym (rw (lt-ltb 0 l.tries h, eq-eqb k audio e) at t))))
 
@@ -143,13 +143,13 @@ module _ (P : TickAnswer → Modes → Type 0) (l : Modes) (time : ℕ)
     unfolding ticked_modes ticked_answer
     tick_cases =
         rw (sym (moved_same l time))
-        (by-test (ended l)
+        (by_test (ended l)
         (λ o. rw (o, ended_rests l time o) (over (ltb-true 5 l.tries o)))
         (λ o.
         let running : l.tries ≤ 5 = ltb-false 5 l.tries o in
-        by-test (due l time)
+        by_test (due l time)
         (λ d.
-        by-test (eqb l.tries 0)
+        by_test (eqb l.tries 0)
         (λ z.
         let none : l.tries ≡ 0 = eqb-true l.tries 0 z in
         let w = due_first l time d none in
@@ -158,7 +158,7 @@ module _ (P : TickAnswer → Modes → Type 0) (l : Modes) (time : ℕ)
         (subst (λ (n : ℕ). P (Audio n) (trying (moved l audio unknown time) 1 time)) one (first none w.0 w.1)))
         (λ z.
         let some : l.tries ≡ 0 → ⊥ = eqb-false l.tries 0 z in
-        by-test (eqb l.tries 5)
+        by_test (eqb l.tries 5)
         (λ f. rw (o, d, z, f) (last (eqb-true l.tries 5 f) (due_next l time d some)))
         (λ f.
         let below : l.tries ≡ 5 → ⊥ = eqb-false l.tries 5 f in

@@ -7,7 +7,7 @@ use mathlib.Core.List.{[], ◌∷◌}
 use lib.Dec.{eqb}
 use borrow.Author.Tests.{eqb-true, eqb-false, ltb-true, ltb-false, leb-true, not-true, eq-eqb, ne_eqb}
 use Rattle.ground.specs.Pick.{pick}
-use Rattle.ground.proofs.Picks.{both_true, pick-by}
+use Rattle.ground.proofs.Picks.{both_true, pick_by}
 use Rattle.mode.specs.declared.Modes.{Modes}
 use Rattle.mode.specs.declared.TickAnswer.TheVariants.{Quiet, Audio, Ended}
 use Rattle.mode.specs.Moved.{ended}
@@ -44,7 +44,7 @@ due_next l time e n =
 
 -- what follows try 5 is said as 6
 last_says : (n : ℕ) → tick_says (pick (eqb n 5) Ended (Audio (n + 1))) ≡ accepted ((n + 1) ∷ [])
-last_says n = pick-by (λ t. tick_says t ≡ accepted ((n + 1) ∷ [])) (eqb n 5) (λ e. rw (eqb-true n 5 e)) (λ e. refl)
+last_says n = pick_by (λ t. tick_says t ≡ accepted ((n + 1) ∷ [])) (eqb n 5) (λ e. rw (eqb-true n 5 e)) (λ e. refl)
 
 by_tests : (over more : Bool) (n : ℕ) → tick_says (pick over Ended (pick more (pick (eqb n 5) Ended (Audio (n + 1))) Quiet)) ≡ accepted (pick over 6 (pick more (n + 1) 0) ∷ [])
 by_tests true more n = refl

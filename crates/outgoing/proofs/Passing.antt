@@ -7,7 +7,7 @@ use Rattle.ground.specs.Refusal.{Test, verdict, settle}
 use Rattle.ground.specs.declared.Refusal.{Refusal}
 use Rattle.ground.specs.declared.Verdict.{Verdict}
 use Rattle.ground.specs.declared.Verdict.TheVariants.{Pass, Refuse}
-use Rattle.ground.proofs.Settled.{verdict-of-answer}
+use Rattle.ground.proofs.Settled.{verdict_of_answer}
 use Rattle.sending.specs.declared.Held.{Held}
 use Rattle.writing.specs.Send.{send_tests, ranked, held_in, send_verdict, Sendable}
 use Rattle.writing.specs.declared.SendVerdict.{SendVerdict}
@@ -38,11 +38,11 @@ module _ (b : Book) (n i channel rank space : ℕ) where
 
   module _ {r : SendVerdict} (e : r ≡ settle (verdict asked) may.Refused (may.Message its)) where
     pub send_refuses : {x : Refusal} → r ≡ may.Refused x → verdict asked ≡ Refuse x
-    send_refuses p = verdict-of-answer why_send (verdict asked) e (λ x. refl) refl ∙ ap why_send p
+    send_refuses p = verdict_of_answer why_send (verdict asked) e (λ x. refl) refl ∙ ap why_send p
 
     module _ {h : Held} (p : r ≡ may.Message h) where
       pub send_passes : verdict asked ≡ Pass
-      send_passes = verdict-of-answer why_send (verdict asked) e (λ x. refl) refl ∙ ap why_send p
+      send_passes = verdict_of_answer why_send (verdict asked) e (λ x. refl) refl ∙ ap why_send p
 
       pub send_is : h ≡ its
       send_is = ap (held_or its) (sym p ∙ e ∙ ap (λ (v : Verdict). settle {A = SendVerdict} v may.Refused (may.Message its)) send_passes)

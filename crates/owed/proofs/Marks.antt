@@ -10,7 +10,7 @@ use lib.ListN.{length, get_or, set, take}
 use lib.Seq.{get_or-set_same, get_or-set_other, take-suc}
 use borrow.Author.Tests.{eqb-true, eqb-false, eq-eqb}
 use Rattle.ground.proofs.Picks.{clash}
-use Rattle.ground.proofs.Either.{by-test}
+use Rattle.ground.proofs.Either.{by_test}
 use Rattle.owed.specs.Owed.{member, mark_of}
 use Rattle.owed.proofs.Lists.{member_last}
 
@@ -20,12 +20,12 @@ Marked marks l = (x : ℕ) → member x l ≡ true → get_or marks (mark_of x) 
 
 -- an entry that finds no mark is not in the list
 pub unmarked_new : (marks l : List ℕ) (x : ℕ) → Marked marks l → eqb (get_or marks (mark_of x) 0) 1 ≡ false → member x l ≡ false
-unmarked_new marks l x m e = by-test (member x l) (λ t. clash (sym e ∙ eq-eqb _ _ (m x t))) (λ f. f)
+unmarked_new marks l x m e = by_test (member x l) (λ t. clash (sym e ∙ eq-eqb _ _ (m x t))) (λ f. f)
 
 -- marks stay when another is left
 mark_stays : (marks : List ℕ) (k j : ℕ) → k < length marks → get_or marks j 0 ≡ 1 → get_or (set marks k 1) j 0 ≡ 1
 mark_stays marks k j h e =
-    by-test (eqb j k)
+    by_test (eqb j k)
     (λ t. let q : j ≡ k = eqb-true j k t in rw q (get_or-set_same marks k 1 0 h))
     (λ f. get_or-set_other marks k j 1 0 (eqb-false j k f) ∙ e)
 

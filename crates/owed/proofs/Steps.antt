@@ -11,7 +11,7 @@ use lib.Dec.{leb}
 use lib.ListN.{length, set, take, drop, length-drop, length-take, length-append, take-append-drop, drop_of_length-le}
 use lib.Seq.{paste, set_split, take-append_seam, length-take-le}
 use borrow.Author.Tests.{leb-true, leb-false, le-leb, lt-leb}
-use Rattle.ground.proofs.Picks.{both_true, pick-by, clash, and_false}
+use Rattle.ground.proofs.Picks.{both_true, pick_by, clash, and_false}
 use Rattle.field.specs.Word.{channel_of, number_of, word_of, served}
 use Rattle.owed.specs.Owed.{owed_of, with_list, member, enters, entered, without_three, no_twice, all_spans, owed_fits, fresh_owed}
 use Rattle.owed.specs.declared.Owed.{Owed}
@@ -133,7 +133,7 @@ unfolding entered enters
 enter_keeps o word t s =
     let k = owed_ok o t in
     let l = owed_of o in
-    pick-by (λ (m : List ℕ). owed_fits (with_list o m) ≡ true) (leb 64 (length l) || member word l)
+    pick_by (λ (m : List ℕ). owed_fits (with_list o m) ≡ true) (leb 64 (length l) || member word l)
     (λ e. listed o l (few_owed o k.few) k.spans k.once)
     (λ e. new l (few_owed o k.few) k.spans k.once e)
   where

@@ -7,7 +7,7 @@ use native.Mathlib.Omega.{arith}
 use lib.Dec.{ltb, eqb}
 use borrow.Author.Tests.{lt-ltb, le-ltb}
 use Rattle.ground.specs.Pick.{pick}
-use Rattle.ground.proofs.Picks.{pick-lt}
+use Rattle.ground.proofs.Picks.{pick_lt}
 use Rattle.field.specs.Word.{served}
 use Rattle.packet.specs.Acks.{acks_served, acks_blank}
 use Rattle.packet.specs.Write.{numbers_placed}
@@ -19,7 +19,7 @@ there_or true y = refl
 there_or false y = refl
 
 missing_or : (n k : ℕ) (y : Bool) → (ltb n (suc k) || y) ≡ pick (ltb k n) y true
-missing_or n k y = pick-lt (λ (b : Bool). (ltb n (suc k) || y) ≡ b) k n (λ l. rw (le-ltb n (suc k) (omega (arith, l)))) (λ l. rw (lt-ltb n (suc k) (omega (arith, l))))
+missing_or n k y = pick_lt (λ (b : Bool). (ltb n (suc k) || y) ≡ b) k n (λ l. rw (le-ltb n (suc k) (omega (arith, l)))) (λ l. rw (lt-ltb n (suc k) (omega (arith, l))))
 
 either : (c e n b : Bool) → ((not c || (n && b)) && (not e || n)) ≡ pick c (n && b) (pick e n true)
 either true true true true = refl

@@ -12,7 +12,7 @@ use lib.Bits.{bit_and, bit_or, or_disjoint, or_lt, and_block, and_mask, and_zero
 use lib.Dec.{eqb}
 use lib.Pow.{pow_pos, pow_mono, pow-lt, shr-shr, field, mod-mod-pow}
 use borrow.Author.Tests.{eqb-true, eqb-false, ne_eqb, eq-eqb}
-use Rattle.ground.proofs.Picks.{pick-by}
+use Rattle.ground.proofs.Picks.{pick_by}
 use Rattle.places.specs.Places.{bit_of, with_bit, without_bit, within}
 
 -- what lies below 2 ^ k is gone once k offsets or more are dropped
@@ -132,13 +132,13 @@ module _ (m i : ℕ) (t : bit_of m i ≡ true) where
 
 -- the set without an offset: that offset is not in it, and each other is as it was
 pub without_same : (m i : ℕ) → bit_of (without_bit m i) i ≡ false
-without_same m i = pick-by (λ (x : ℕ). bit_of x i ≡ false) (bit_of m i) (off_same m i) (λ f. f)
+without_same m i = pick_by (λ (x : ℕ). bit_of x i ≡ false) (bit_of m i) (off_same m i) (λ f. f)
 
 pub without_other : (m i j : ℕ) → j ≢ i → bit_of (without_bit m i) j ≡ bit_of m j
-without_other m i j d = pick-by (λ (x : ℕ). bit_of x j ≡ bit_of m j) (bit_of m i) (λ t. off_other m i t j d) (λ f. refl)
+without_other m i j d = pick_by (λ (x : ℕ). bit_of x j ≡ bit_of m j) (bit_of m i) (λ t. off_other m i t j d) (λ f. refl)
 
 pub without_le : (m i : ℕ) → without_bit m i ≤ m
-without_le m i = pick-by (λ (n : ℕ). n ≤ m) (bit_of m i) (λ t. omega arith) (λ f. le_refl m)
+without_le m i = pick_by (λ (n : ℕ). n ≤ m) (bit_of m i) (λ t. omega arith) (λ f. le_refl m)
 
 -- the set with an offset: that offset is in it, and each other is as it was
 on_same : (m i : ℕ) → bit_of m i ≡ false → bit_of (m + 2 ^ i) i ≡ true
@@ -153,13 +153,13 @@ on_other m i j f d =
     sym (off_other (m + 2 ^ i) i (on_same m i f) j d) ∙ ap (λ (x : ℕ). bit_of x j) back
 
 pub with_same : (m i : ℕ) → bit_of (with_bit m i) i ≡ true
-with_same m i = pick-by (λ (x : ℕ). bit_of x i ≡ true) (bit_of m i) (λ t. t) (on_same m i)
+with_same m i = pick_by (λ (x : ℕ). bit_of x i ≡ true) (bit_of m i) (λ t. t) (on_same m i)
 
 pub with_other : (m i j : ℕ) → j ≢ i → bit_of (with_bit m i) j ≡ bit_of m j
-with_other m i j d = pick-by (λ (x : ℕ). bit_of x j ≡ bit_of m j) (bit_of m i) (λ t. refl) (λ f. on_other m i j f d)
+with_other m i j d = pick_by (λ (x : ℕ). bit_of x j ≡ bit_of m j) (bit_of m i) (λ t. refl) (λ f. on_other m i j f d)
 
 -- and it reaches no further than before, or than that offset
 pub with_lt : (m i n : ℕ) → m < 2 ^ n → i < n → with_bit m i < 2 ^ n
 with_lt m i n h l =
-    pick-by (λ (x : ℕ). x < 2 ^ n) (bit_of m i) (λ t. h)
+    pick_by (λ (x : ℕ). x < 2 ^ n) (bit_of m i) (λ t. h)
     (λ f. subst (λ (x : ℕ). x < 2 ^ n) (or_bit m i f) (or_lt n m (2 ^ i) h (pow-lt l)))

@@ -13,7 +13,7 @@ use lib.Pow.{pow_pos, pow_mono, mod-pow-add}
 use borrow.Author.Tests.{eqb-true, eq-eqb, ne_eqb}
 use Rattle.ground.specs.Pick.{pick}
 use Rattle.ground.proofs.Every.{below_suc}
-use Rattle.ground.proofs.Picks.{pick-by, both_true, clash}
+use Rattle.ground.proofs.Picks.{pick_by, both_true, clash}
 use Rattle.places.proofs.Bits.{bit_past}
 use Rattle.places.specs.Places.{widest, bit_of, set_below, count_of, has_rank, or_else, lowest, rank_of}
 use Rattle.places.specs.declared.Place.{Place}
@@ -96,7 +96,7 @@ module _ (P : ℕ → Bool) where
       go : (p : Place) → (p ≡ At i → (i < n) × (P i ≡ true)) → or_else p (pick (P n) (At n) Missing) ≡ At i → (i < suc n) × (P i ≡ true)
       go (At j) h e = let k = h e in (omega (arith, k.0), k.1)
       go Missing h e =
-          pick-by (λ (q : Place). q ≡ At i → (i < suc n) × (P i ≡ true)) (P n)
+          pick_by (λ (q : Place). q ≡ At i → (i < suc n) × (P i ≡ true)) (P n)
           (λ t s. let k : n ≡ i = cc in (omega arith, rw k at t)) (λ f s. absurd (let z : ◌≡◌ {A = ℕ} 0 1 = cc in omega arith)) e
 
 -- the r-th offset is in the set, and exactly r offsets of the set lie below it

@@ -13,7 +13,7 @@ use borrow.Author.Tests.{lt-ltb, le-leb, eq-eqb, leb-true}
 use Rattle.ground.specs.Refusal.{Test, must, verdict}
 use Rattle.ground.specs.declared.Refusal.TheVariants.{SIZE}
 use Rattle.ground.specs.declared.Verdict.TheVariants.{Pass}
-use Rattle.ground.proofs.Picks.{both_true, pick-lt}
+use Rattle.ground.proofs.Picks.{both_true, pick_lt}
 use Rattle.ground.proofs.Verdicts.{passes, verdict_on}
 use Rattle.places.specs.Places.{mask_of, widest, bit_of, set_below, rank_of}
 use Rattle.places.specs.declared.Place.TheVariants.{At}
@@ -101,7 +101,7 @@ module _ (c : ℕ) (v : reliable c ≡ true) (space : ℕ) (roomy : largest ≤ 
       let there : bit_of (mask_of r.stored) 0 ≡ true = next_there j c v full in
       let k = gets_ok j.yours.sides c in
       let below : r.next < cap = omega (arith, (sends_ok j.mine.sides c).capped, next_below j c v full) in
-      let origin : place_of r.origin 0 w ≡ r.origin = pick-lt (λ (p : ℕ). p ≡ r.origin) (r.origin + 0) w (λ l. add-zero r.origin) (λ l. absurd (omega (arith, k.placed))) in
+      let origin : place_of r.origin 0 w ≡ r.origin = pick_lt (λ (p : ℕ). p ≡ r.origin) (r.origin + 0) w (λ l. add-zero r.origin) (λ l. absurd (omega (arith, k.placed))) in
       let sized : message_fits largest (get_or r.sizes (place_of r.origin 0 w) 0) ≡ true = receiving_sized w largest r (j.yours.sides.receiving c) 0 (omega (arith, k.placed)) there in
       let fits : message_fits largest (next_size r) ≡ true = rw origin at sized in
       let small : next_size r ≤ largest = leb-true _ _ (both_true (ltb 0 (next_size r)) (leb (next_size r) largest) fits).1 in

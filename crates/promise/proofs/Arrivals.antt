@@ -19,7 +19,7 @@ use Rattle.calls.specs.Call.{Call}
 use Rattle.calls.specs.Order.{line_for}
 use Rattle.calls.specs.Stages.{tests}
 use Rattle.calls.specs.Result.{accepted_result, effect, result_with}
-use Rattle.ground.proofs.Either.{by-test}
+use Rattle.ground.proofs.Either.{by_test}
 use Rattle.ground.specs.Answer.{accepted}
 use Rattle.incoming.proofs.Passing.{addressed}
 use Rattle.laws.proofs.Others.{others_stay, parts_stay}
@@ -52,7 +52,7 @@ module _ (g : Gateway) (shaped : BookShaped g.book) (s out : List ℕ) where
   pub outside_stays : (j : ℕ) → (Relays g j → ⊥) → Stays g (after g c out) j
   unfolding line_for
   outside_stays j away =
-      by-test (accepts (does g c out))
+      by_test (accepts (does g c out))
       (λ e.
       let other : at ≡ j → ⊥ = λ q. away (subst (Relays g) (answers g s out e ∙ q) (arrival_entitled g s out e).inside) in (
         others_stay c g.book g.store out j other,

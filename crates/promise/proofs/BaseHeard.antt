@@ -8,7 +8,7 @@ use native.Mathlib.Omega.{arith}
 use lib.Dec.{eqb, ltb, leb}
 use lib.ListN.{length, get_or}
 use Rattle.ground.specs.Pick.{pick}
-use Rattle.ground.proofs.Picks.{pick-by}
+use Rattle.ground.proofs.Picks.{pick_by}
 use Rattle.field.specs.Word.{channel_of, number_of}
 use Rattle.packet.specs.Acks.{ack_list}
 use Rattle.packet.specs.Read.{head_at, acks_at}
@@ -58,9 +58,9 @@ unfolding heard_line heard_base
 heard_on l channel base c =
     let s = sending_of l channel in
     let d = dist base s.base in
-    pick-by (λ (m : Line). base_of l c ≤ base_of m c) (reliable channel)
+    pick_by (λ (m : Line). base_of l c ≤ base_of m c) (reliable channel)
     (λ _. base_put l channel (heard_base (send_window l channel) s base)
-    (pick-by (λ (t : Sending). s.base ≤ t.base) (ltb 0 d && leb d (under_way s)) (λ _. omega arith) (λ _. omega arith)) c)
+    (pick_by (λ (t : Sending). s.base ≤ t.base) (ltb 0 d && leb d (under_way s)) (λ _. omega arith) (λ _. omega arith)) c)
     (λ _. omega arith)
 
 acked_on : (words : List ℕ) (l : Line) (c : ℕ) → base_of l c ≤ base_of (acked_all l words) c
@@ -70,7 +70,7 @@ acked_on (word ∷ words) l c =
     let s = sending_of l (channel_of word) in
     let d = dist (number_of word) s.base in
     let one : base_of l c ≤ base_of (acked_line l word) c = base_put l (channel_of word) (acked_by s (number_of word))
-    (pick-by (λ (t : Sending). s.base ≤ t.base) (ltb d (under_way s)) (λ _. omega arith) (λ _. omega arith)) c in
+    (pick_by (λ (t : Sending). s.base ≤ t.base) (ltb d (under_way s)) (λ _. omega arith) (λ _. omega arith)) c in
     omega (arith, one, acked_on words (acked_line l word) c)
 
 -- a payload leaves it, and so do acknowledgements
@@ -78,7 +78,7 @@ news_on : (l : Line) (s : List ℕ) (c : ℕ) → base_of (heard_line l (head_at
 unfolding arrived_line news_line stored_line
 news_on l s c =
     let acked = acked_on (ack_list (acks_at s)) (heard_line l (head_at s).channel (head_at s).base) c in
-    pick-by (λ (m : Line). base_of (heard_line l (head_at s).channel (head_at s).base) c ≤ base_of m c) (carries s) (λ _. acked) (λ _. acked)
+    pick_by (λ (m : Line). base_of (heard_line l (head_at s).channel (head_at s).base) c ≤ base_of m c) (carries s) (λ _. acked) (λ _. acked)
 
 -- the base that is named is heard
 module _ {e f : End} (j : Joined e f) where

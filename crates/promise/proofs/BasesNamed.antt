@@ -10,7 +10,7 @@ use lib.ListN.{length, drop}
 use lib.Seq.{length-take-le}
 use borrow.Author.Tests.{ne_eqb}
 use Rattle.ground.specs.Pick.{pick}
-use Rattle.ground.proofs.Picks.{pick-by}
+use Rattle.ground.proofs.Picks.{pick_by}
 use Rattle.channel.proofs.Windows.{window_narrow}
 use Rattle.flow.specs.Flow.{Message}
 use Rattle.line.specs.Line.{receiving_of}
@@ -64,7 +64,7 @@ module _ {i j identifier kind : ℕ} {g₀ h₀ : Gateway} {p₀ q₀ : Past} wh
     near = let back = (joined_open x.pair.mine x.relays_here.0 x.pair.joined roomy).back c v in omega (arith, back.count, back.high, back.low, window_narrow c)
 
     named : Each (Recent x.yours.taken) writes.packet.names
-    named = pick-by (Each (Recent x.yours.taken)) (eqb c 0) (λ _. none) (λ _. also near none)
+    named = pick_by (Each (Recent x.yours.taken)) (eqb c 0) (λ _. none) (λ _. also near none)
 
     names : writes.packet.names ≡ mark c (receiving_of (line_at x.here i) c).next ∷ []
     names = ap (λ (t : Bool). pick t [] (base_mark x.here i c ∷ [])) (ne_eqb c 0 (λ q. absurd (omega (arith, q, (channel_span c v).0))))

@@ -23,7 +23,7 @@ use Rattle.line.specs.Line.{is_open, closed_line, opened_line}
 use Rattle.line.specs.declared.Line.{Line}
 use Rattle.line.specs.declared.Settings.{Settings}
 use Rattle.book.specs.Book.{fresh_book, open_in}
-use Rattle.book.proofs.RestingTurns.{getD-alike}
+use Rattle.book.proofs.RestingTurns.{get_or_alike}
 use Rattle.calls.specs.Call.{Call}
 use Rattle.calls.specs.Call as call
 use Rattle.calls.specs.Order.{line_for}
@@ -68,7 +68,7 @@ module _ (store : List ℕ) (long : store_length fresh_book ≤ length store) (i
   unfolding tests open_tests open_in member
   open_passes =
       passes (fit_book fresh_book ∷ line_number i ∷ open_tests fresh_book i s)
-      (fresh.fits, (numbered, (ap (λ (l : Line). not (is_open l)) (getD-alike 4 i closed_line), (fit, (refl, tt)))))
+      (fresh.fits, (numbered, (ap (λ (l : Line). not (is_open l)) (get_or_alike 4 i closed_line), (fit, (refl, tt)))))
 
   opened : line_at h i ≡ opened_line s time
   unfolding line_for effect

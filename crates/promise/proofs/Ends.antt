@@ -8,7 +8,7 @@ use mathlib.Core.List.{List, map}
 use native.Mathlib.Omega.{arith}
 use lib.Dec.{lit≤, eqb}
 use lib.ListN.{length}
-use Rattle.ground.proofs.Picks.{pick-by}
+use Rattle.ground.proofs.Picks.{pick_by}
 use Rattle.channel.specs.Channel.{modulus, window_of}
 use Rattle.sending.specs.Sending.{SendingOk, sending_fits}
 use Rattle.receiving.specs.Receiving.{ReceivingOk, receiving_fits}
@@ -87,7 +87,7 @@ module _ {l : Line} (k : Sides l) (channel : ℕ) where
 
 -- a window and the bound together are within the numbers' span
 pub wide : (channel : ℕ) → window_of channel + bound ≤ modulus
-wide channel = pick-by (λ (w : ℕ). w + bound ≤ modulus) (eqb channel 1) (λ _. lit≤ tt) (λ _. lit≤ tt)
+wide channel = pick_by (λ (w : ℕ). w + bound ≤ modulus) (eqb channel 1) (λ _. lit≤ tt) (λ _. lit≤ tt)
 
 -- what holds of channels 1 and 2 holds of each that is reliable
 pub on_both : (P : ℕ → Type 0) → P 1 → P 2 → (channel : ℕ) → reliable channel ≡ true → P channel

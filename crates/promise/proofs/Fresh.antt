@@ -8,7 +8,7 @@ use mathlib.Core.List.{List, []}
 use native.Mathlib.Omega.{arith}
 use lib.Dec.{lit<, eqb}
 use lib.ListN.{length}
-use Rattle.ground.proofs.Picks.{pick-by}
+use Rattle.ground.proofs.Picks.{pick_by}
 use Rattle.places.specs.Places.{mask_of, set_of}
 use Rattle.places.proofs.Masks.{none_bit}
 use Rattle.channel.specs.Channel.{window_of}
@@ -51,8 +51,8 @@ pub record Unused (l : Line) : Type 0 where
 unused_by : (l : Line) → l.sending1 ≡ fresh_sending → l.sending2 ≡ fresh_sending → l.receiving1 ≡ fresh_receiving → l.receiving2 ≡ fresh_receiving → l.owed ≡ fresh_owed → Unused l
 unused_by l a b c d o =
     record {
-      sending = λ n. pick-by (λ (s : Sending). s ≡ fresh_sending) (eqb n 1) (λ _. a) (λ _. b);
-      receiving = λ n. pick-by (λ (r : Receiving). r ≡ fresh_receiving) (eqb n 1) (λ _. c) (λ _. d);
+      sending = λ n. pick_by (λ (s : Sending). s ≡ fresh_sending) (eqb n 1) (λ _. a) (λ _. b);
+      receiving = λ n. pick_by (λ (r : Receiving). r ≡ fresh_receiving) (eqb n 1) (λ _. c) (λ _. d);
       owed = o;
     }
 
@@ -88,7 +88,7 @@ module _ {l : Line} (u : Unused l) where
       }
     where
       some : (c : ℕ) → 0 < window_of c
-      some c = pick-by (λ (w : ℕ). 0 < w) (eqb c 1) (λ _. lit< tt) (λ _. lit< tt)
+      some c = pick_by (λ (w : ℕ). 0 < w) (eqb c 1) (λ _. lit< tt) (λ _. lit< tt)
 
   -- it shows nothing
   abbrev no_sends : Sends

@@ -10,7 +10,7 @@ use native.Mathlib.Omega.{arith}
 use lib.Dec.{lit<, eqb}
 use lib.ListN.{length}
 use Rattle.ground.specs.Answer.{accepted}
-use Rattle.ground.proofs.Picks.{pick-by}
+use Rattle.ground.proofs.Picks.{pick_by}
 use Rattle.channel.specs.Channel.{window_of, cap, largest}
 use Rattle.flow.specs.Flow.{Message}
 use Rattle.owed.specs.Owed.{owed_of}
@@ -110,4 +110,4 @@ module _ {i j identifier kind : ℕ} {g h : Gateway} {p q : Past} (k : Pair i j 
       }
     where
       wide : (n : ℕ) → 0 < window_of n
-      wide n = pick-by (λ (w : ℕ). 0 < w) (eqb n 1) (λ _. lit< tt) (λ _. lit< tt)
+      wide n = pick_by (λ (w : ℕ). 0 < w) (eqb n 1) (λ _. lit< tt) (λ _. lit< tt)

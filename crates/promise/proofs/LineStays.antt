@@ -6,7 +6,7 @@ use mathlib.Core.Bool.{true, false}
 use mathlib.Core.List.{List, [], ◌∷◌}
 use native.Mathlib.Omega.{arith}
 use borrow.Author.Tests.{le-leb}
-use Rattle.ground.proofs.Either.{by-test}
+use Rattle.ground.proofs.Either.{by_test}
 use Rattle.ground.proofs.Picks.{clash}
 use Rattle.ground.proofs.Verdicts.{passes}
 use Rattle.mode.specs.Acts.{Act, outcome}
@@ -71,7 +71,7 @@ pub report_kept : {i identifier kind : ℕ} {g : Gateway} {p : Past} → Sound i
 unfolding line_for effect
 report_kept {i} {g = g} s j channel out =
     let c = call.report i channel in
-    by-test (accepts (does g c out))
+    by_test (accepts (does g c out))
     (λ e.
     let pass = call_passes g c out e in
     stays s j c out (line_left s c out refl pass) (part_stays s c out refl pass refl))

@@ -10,7 +10,7 @@ use native.Mathlib.Omega.{arith}
 use lib.Dec.{lit<, eqb}
 use lib.ListN.{length}
 use borrow.Author.Tests.{le-leb}
-use Rattle.ground.proofs.Picks.{pick-by}
+use Rattle.ground.proofs.Picks.{pick_by}
 use Rattle.ground.proofs.Verdicts.{passes}
 use Rattle.channel.specs.Channel.{window_of, cap, largest}
 use Rattle.sending.specs.Sending.{fresh_sending}
@@ -30,7 +30,7 @@ use Rattle.mode.specs.declared.Modes.{Modes}
 use Rattle.relay.specs.RelayTests.{reliable}
 use Rattle.book.specs.Book.{fresh_book, open_in}
 use Rattle.book.proofs.Fresh.{fresh_fits}
-use Rattle.book.proofs.RestingTurns.{getD-alike}
+use Rattle.book.proofs.RestingTurns.{get_or_alike}
 use Rattle.calls.specs.Call as call
 use Rattle.calls.specs.Order.{line_for}
 use Rattle.calls.specs.Stages.{tests, fit_book, line_number, open_tests}
@@ -61,7 +61,7 @@ module _ (identifier kind : ℕ) (fitting : settings_fit (record { identifier = 
     may_open : Passes (fresh_with store) (call.opening i settings 0) []
     unfolding tests open_tests member open_in
     may_open =
-        let free : not (is_open (line_at (fresh_with store) i)) ≡ true = ap (λ (l : Line). not (is_open l)) (getD-alike 4 i closed_line) in
+        let free : not (is_open (line_at (fresh_with store) i)) ≡ true = ap (λ (l : Line). not (is_open l)) (get_or_alike 4 i closed_line) in
         passes (fit_book fresh_book ∷ line_number i ∷ open_tests fresh_book i settings) (fresh_fits, (le-leb i 3 (omega (arith, k.mine.small)), (free, (fitting, (refl, tt)))))
 
     line : line_at opened i ≡ opened_line settings 0
@@ -161,4 +161,4 @@ module _ (identifier kind : ℕ) (fitting : settings_fit (record { identifier = 
       big = lit< tt
 
       wide : (n : ℕ) → 0 < window_of n
-      wide n = pick-by (λ (w : ℕ). 0 < w) (eqb n 1) (λ _. lit< tt) (λ _. lit< tt)
+      wide n = pick_by (λ (w : ℕ). 0 < w) (eqb n 1) (λ _. lit< tt) (λ _. lit< tt)

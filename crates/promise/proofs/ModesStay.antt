@@ -16,7 +16,7 @@ use Rattle.calls.specs.Call.{Call}
 use Rattle.calls.specs.Order.{line_for}
 use Rattle.calls.proofs.Results.{result_accepted}
 use Rattle.calls.specs.Result.{accepted_result, effect}
-use Rattle.ground.proofs.Either.{by-test}
+use Rattle.ground.proofs.Either.{by_test}
 use Rattle.ground.proofs.Picks.{clash}
 use Rattle.laws.proofs.Others.{others_stay}
 use Rattle.laws.proofs.OwnLine.{own_line}
@@ -46,7 +46,7 @@ own_modes (call.report i channel) b l start store out e = refl
 module _ (g : Gateway) (shaped : BookShaped g.book) where
   pub modes_stay : (c : Call) (out : List ℕ) (j : ℕ) → of_modes c j ≡ false → (line_at (after g c out) j).modes ≡ (line_at g j).modes
   modes_stay c out j e =
-      by-test (accepts (does g c out))
+      by_test (accepts (does g c out))
       (λ t. go t (ℕ_discrete (line_for c g.book) j))
       (λ t. ap (λ (b : Book). (line_of b j).modes) (call_refused g c out t).book)
     where

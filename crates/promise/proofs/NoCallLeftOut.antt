@@ -9,7 +9,7 @@ use lib.ListN.{length}
 use borrow.Author.Tests.{eqb-true}
 use Rattle.ground.specs.Refusal.{verdict}
 use Rattle.ground.specs.declared.Verdict.TheVariants.{Pass}
-use Rattle.ground.proofs.Either.{by-test}
+use Rattle.ground.proofs.Either.{by_test}
 use Rattle.ground.proofs.Picks.{clash}
 use Rattle.ground.proofs.Verdicts.{passed}
 use Rattle.line.specs.Line.{is_open}
@@ -74,7 +74,7 @@ module _ {i identifier kind : ℕ} {g : Gateway} {p : Past} (s : Sound i identif
   own_adds (call.report k channel) m e still ok = subst (λ (n : ℕ). Then (call.report n channel)) (sym m) (p, reported channel)
 
   pub call_adds : (c : Call) → is_open (line_at (after g c out) i) ≡ true → Provided i g p q out c → Then c
-  call_adds c still ok = by-test (accepts (does g c out)) (λ e. go e (ℕ_discrete (line_for c g.book) i)) (λ e. (p, refused c e))
+  call_adds c still ok = by_test (accepts (does g c out)) (λ e. go e (ℕ_discrete (line_for c g.book) i)) (λ e. (p, refused c e))
     where
       go : accepts (does g c out) ≡ true → Dec (line_for c g.book ≡ i) → Then c
       go e (yes m) = own_adds c m e still ok

@@ -9,7 +9,7 @@ use lib.Dec.{eqb, leb}
 use lib.ListN.{length, length-append, length-map}
 use borrow.Author.Tests.{eqb-true, eq-eqb, ne_eqb}
 use Rattle.ground.specs.Pick.{pick}
-use Rattle.ground.proofs.Picks.{pick-by, both_true, clash}
+use Rattle.ground.proofs.Picks.{pick_by, both_true, clash}
 use Rattle.channel.specs.Channel.{modulus}
 use Rattle.owed.specs.Owed.{member, enters}
 use Rattle.promise.specs.Past.{Mark, alike, there, renewed, enter}
@@ -47,7 +47,7 @@ renewed_words : (m : Mark) (l : List Mark) → map mark_word (renewed m l) ≡ m
 unfolding renewed
 renewed_words m [] = refl
 renewed_words m (x ∷ l) =
-    pick-by (λ (k : List Mark). map mark_word k ≡ mark_word x ∷ map mark_word l) (alike x m)
+    pick_by (λ (k : List Mark). map mark_word k ≡ mark_word x ∷ map mark_word l) (alike x m)
     (λ e. ap (λ (w : ℕ). w ∷ map mark_word l) (alike_word x m e))
     (λ e. ap (λ (k : List ℕ). mark_word x ∷ k) (renewed_words m l))
 
@@ -72,22 +72,22 @@ enter_words l m =
 renewed_length : (m : Mark) (l : List Mark) → length (renewed m l) ≡ length l
 unfolding renewed
 renewed_length m [] = refl
-renewed_length m (x ∷ l) = pick-by (λ (k : List Mark). length k ≡ suc (length l)) (alike x m) (λ _. refl) (λ _. ap suc (renewed_length m l))
+renewed_length m (x ∷ l) = pick_by (λ (k : List Mark). length k ≡ suc (length l)) (alike x m) (λ _. refl) (λ _. ap suc (renewed_length m l))
 
 pub enter_length : (l : List Mark) (m : Mark) → length (enter l m) ≤ suc (length l)
 unfolding enter
 enter_length l m =
-    pick-by (λ (k : List Mark). length k ≤ suc (length l)) (there m l) (λ _. omega (arith, renewed_length m l))
-    (λ _. pick-by (λ (k : List Mark). length k ≤ suc (length l)) (leb 64 (length l)) (λ _. omega arith) (λ _. omega (arith, length-append l (m ∷ []))))
+    pick_by (λ (k : List Mark). length k ≤ suc (length l)) (there m l) (λ _. omega (arith, renewed_length m l))
+    (λ _. pick_by (λ (k : List Mark). length k ≤ suc (length l)) (leb 64 (length l)) (λ _. omega arith) (λ _. omega (arith, length-append l (m ∷ []))))
 
 -- what holds of each of the list, and of what enters, holds of each then
 module _ {P : Mark → Type 0} (m : Mark) (p : P m) where
   each_renewed : {l : List Mark} → Each P l → Each P (renewed m l)
   unfolding renewed
   each_renewed none = none
-  each_renewed (also {a = x} {l = l} q h) = pick-by (Each P) (alike x m) (λ _. also p h) (λ _. also q (each_renewed h))
+  each_renewed (also {a = x} {l = l} q h) = pick_by (Each P) (alike x m) (λ _. also p h) (λ _. also q (each_renewed h))
 
   pub each_enter : {l : List Mark} → Each P l → Each P (enter l m)
   unfolding enter
   each_enter {l} h =
-      pick-by (Each P) (there m l) (λ _. each_renewed h) (λ _. pick-by (Each P) (leb 64 (length l)) (λ _. h) (λ _. each_append h (also p none)))
+      pick_by (Each P) (there m l) (λ _. each_renewed h) (λ _. pick_by (Each P) (leb 64 (length l)) (λ _. h) (λ _. each_append h (also p none)))

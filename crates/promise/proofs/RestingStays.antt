@@ -8,7 +8,7 @@ use lib.ListN.{length}
 use Rattle.ground.specs.Pick.{pick}
 use Rattle.ground.specs.Refusal.{verdict}
 use Rattle.ground.proofs.Picks.{clash}
-use Rattle.ground.proofs.Settled.{settled-by}
+use Rattle.ground.proofs.Settled.{settled_by}
 use Rattle.line.specs.declared.Line.{Line}
 use Rattle.book.specs.Book.{line_of, with_line, resting_of}
 use Rattle.book.specs.Closing.{closed_at}
@@ -40,6 +40,6 @@ resting_stays g c e out =
     let b = g.book in
     let i = line_for c b in
     let its = effect c i (line_of b i) (part_start b i) g.store out in
-    settled-by (λ (d : CallResult). resting_of d.book ≡ resting_of b) (verdict (order c b (length g.store) (length out)))
+    settled_by (λ (d : CallResult). resting_of d.book ≡ resting_of b) (verdict (order c b (length g.store) (length out)))
     (λ r q. refl)
     (λ q. ap (λ (t : Bool). resting_of (pick t (closed_at b i) (with_line b i its.line))) (none_rests c i (line_of b i) (part_start b i) g.store out e))

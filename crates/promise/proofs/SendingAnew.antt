@@ -11,7 +11,7 @@ use lib.ListN.{length}
 use borrow.Author.Tests.{eqb-true, eq-eqb, ne_eqb, ltb-true}
 use Rattle.ground.specs.Refusal.{verdict}
 use Rattle.ground.specs.declared.Verdict.TheVariants.{Pass}
-use Rattle.ground.proofs.Picks.{pick-by, both_true}
+use Rattle.ground.proofs.Picks.{pick_by, both_true}
 use Rattle.ground.proofs.Verdicts.{passed}
 use Rattle.ground.proofs.Every.{apart}
 use Rattle.sending.specs.Sending.{next_place, took_one}
@@ -100,7 +100,7 @@ module _ (taken : ℕ → List Message) (channel : ℕ) (m : Message) where
   more_other c d = rw (ne_eqb c channel d)
 
   pub more_data : (c n : ℕ) (x : Message) → Data (taken c) n x → Data (more taken channel m c) n x
-  more_data c n x d = pick-by (λ (l : List Message). Data l n x) (eqb c channel) (λ _. data_more (taken c) m n x d) (λ _. d)
+  more_data c n x d = pick_by (λ (l : List Message). Data l n x) (eqb c channel) (λ _. data_more (taken c) m n x d) (λ _. d)
 
 -- other ways and other channels have regions of their own
 pub way_apart : {c channel : ℕ} → ◌≢◌ {A = Side} (record { way = way.Sending; channel = channel }) (record { way = way.Receiving; channel = c })

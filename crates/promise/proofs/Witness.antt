@@ -7,7 +7,7 @@ use mathlib.Core.List.{List, [], ◌∷◌, Memᴰ}
 use native.Mathlib.Omega.{arith}
 use lib.Dec.{lit≤, lit<, eqb}
 use lib.ListN.{length}
-use Rattle.ground.proofs.Picks.{pick-by}
+use Rattle.ground.proofs.Picks.{pick_by}
 use Rattle.channel.specs.Channel.{window_of}
 use Rattle.flow.specs.Flow.{Message}
 use Rattle.line.specs.Fit.{settings_fit}
@@ -21,7 +21,7 @@ use Rattle.promise.specs.Witness.{Sized, Passing, Losing, Repeating, Reordering}
 use Rattle.promise.proofs.AnyWay.{any_way}
 
 two_fit : (channel : ℕ) → 2 ≤ window_of channel
-two_fit channel = pick-by (λ (w : ℕ). 2 ≤ w) (eqb channel 1) (λ _. lit≤ tt) (λ _. lit≤ tt)
+two_fit channel = pick_by (λ (w : ℕ). 2 ≤ w) (eqb channel 1) (λ _. lit≤ tt) (λ _. lit≤ tt)
 
 -- the first of a list, and the second
 first : {k : ℕ} {l : List ℕ} → Memᴰ k (k ∷ l)

@@ -10,7 +10,7 @@ use lib.Dec.{lit≤, ltb, leb, eqb}
 use lib.ListN.{length, take, drop, length-append}
 use borrow.Author.Tests.{le-leb, lt-ltb}
 use Rattle.ground.specs.Pick.{pick}
-use Rattle.ground.proofs.Picks.{pick-by}
+use Rattle.ground.proofs.Picks.{pick_by}
 use Rattle.field.specs.Word.{channel_of, number_of}
 use Rattle.packet.specs.Acks.{ack_list}
 use Rattle.packet.specs.Read.{head_at, acks_at, payload_of}
@@ -48,7 +48,7 @@ use Rattle.refuted.proofs.Rounds.{space, At, Behind, behind, g₂, p₂, t₂, t
 -- acknowledgements leave h as it is
 acked_base : (s : Sending) (n : ℕ) → (acked_by s n).base ≡ s.base
 unfolding acked_by
-acked_base s n = pick-by (λ (x : Sending). x.base ≡ s.base) (ltb (dist n s.base) (under_way s)) (λ _. refl) (λ _. refl)
+acked_base s n = pick_by (λ (x : Sending). x.base ≡ s.base) (ltb (dist n s.base) (under_way s)) (λ _. refl) (λ _. refl)
 
 one_acked : (l : Line) (word : ℕ) → (acked_line l word).sending1.base ≡ l.sending1.base
 unfolding acked_line

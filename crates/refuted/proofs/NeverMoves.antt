@@ -14,8 +14,8 @@ use Rattle.ground.specs.Pick.{pick}
 use Rattle.ground.specs.Refusal.{must, verdict}
 use Rattle.ground.specs.declared.Refusal.TheVariants.{SIZE}
 use Rattle.ground.specs.declared.Verdict.TheVariants.{Pass}
-use Rattle.ground.proofs.Picks.{pick-by}
-use Rattle.ground.proofs.Settled.{settled-by}
+use Rattle.ground.proofs.Picks.{pick_by}
+use Rattle.ground.proofs.Settled.{settled_by}
 use Rattle.ground.proofs.Verdicts.{passed, pass_both}
 use Rattle.field.specs.Word.{channel_of, number_of}
 use Rattle.packet.specs.Acks.{ack_list}
@@ -51,7 +51,7 @@ use Rattle.book.specs.Book.{fresh_book, line_of, with_line, open_in, lines_fit, 
 use Rattle.book.specs.Closing.{closed_at}
 use Rattle.book.specs.Parts.{part_start}
 use Rattle.book.specs.declared.Book.{Book}
-use Rattle.book.proofs.RestingTurns.{getD-alike}
+use Rattle.book.proofs.RestingTurns.{get_or_alike}
 use Rattle.calls.specs.Call.{Call}
 use Rattle.calls.specs.Call as call
 use Rattle.calls.specs.Order.{open_order, ask_order, order, line_for}
@@ -83,7 +83,7 @@ abbrev LowBook : Book → Type 0
 LowBook b = (k : ℕ) → LowLine (line_of b k)
 
 fresh_low : LowLine closed_line
-fresh_low c = pick-by (λ (s : Sending). Low (window_of c) s) (eqb c 1) (λ _. record { base = refl; few = omega arith }) (λ _. record { base = refl; few = omega arith })
+fresh_low c = pick_by (λ (s : Sending). Low (window_of c) s) (eqb c 1) (λ _. record { base = refl; few = omega arith }) (λ _. record { base = refl; few = omega arith })
 
 -- a line put anew
 put_low : (b : Book) → LowBook b → (i : ℕ) (l : Line) → LowLine l → LowBook (with_line b i l)
@@ -115,11 +115,11 @@ acked_low (word ∷ words) l k =
     let c = channel_of word in
     let s = sending_of l c in
     acked_low words (acked_line l word) (side_low l k c (acked_by s (number_of word))
-    (pick-by (Low (window_of c)) (ltb (dist (number_of word) s.base) (under_way s)) (λ _. record { base = (k c).base; few = (k c).few }) (λ _. k c)))
+    (pick_by (Low (window_of c)) (ltb (dist (number_of word) s.base) (under_way s)) (λ _. record { base = (k c).base; few = (k c).few }) (λ _. k c)))
 
 arrived_low : (l : Line) → LowLine l → (s : List ℕ) → LowLine (unmoved l s)
 unfolding stored_line
-arrived_low l k s = pick-by LowLine (carries s) (λ _. acked_low (ack_list (acks_at s)) l k) (λ _. acked_low (ack_list (acks_at s)) l k)
+arrived_low l k s = pick_by LowLine (carries s) (λ _. acked_low (ack_list (acks_at s)) l k) (λ _. acked_low (ack_list (acks_at s)) l k)
 
 -- a change of mode leaves both, or starts afresh
 stepped_low : (l : Line) → LowLine l → (m : Modes) (c : Channels) → LowLine (stepped_to l m c)
@@ -147,11 +147,11 @@ ours_low : (c : Call) (b : Book) (store out : List ℕ) → LowBook b
     → LowBook (result_of c b store out).book
 unfolding result_of accepted_result closed_at
 ours_low c b store out k line =
-    settled-by (λ (d : CallResult). LowBook d.book) (verdict (order c b (length store) (length out))) (λ r e. k)
+    settled_by (λ (d : CallResult). LowBook d.book) (verdict (order c b (length store) (length out))) (λ r e. k)
     (λ e.
     let i = line_for c b in
     let done = effect c i (line_of b i) (part_start b i) store out in
-    pick-by LowBook done.rests (λ _. put_low b k i closed_line fresh_low) (λ _. put_low b k i done.line (line (sym (in_stages c b (length store) (length out)) ∙ e))))
+    pick_by LowBook done.rests (λ _. put_low b k i closed_line fresh_low) (λ _. put_low b k i done.line (line (sym (in_stages c b (length store) (length out)) ∙ e))))
 
 -- no call of the build moves h, or takes more than a window
 call_low : (c : Call) (b : Book) (store out : List ℕ) → LowBook b → LowBook (f c b store out).book
@@ -168,7 +168,7 @@ call_low (call.empty i channel) b store out k = ours_low (call.empty i channel) 
 call_low (call.arrival s) b store out k =
     let d = result_of (call.arrival s) b store out in
     let i = line_for (call.arrival s) b in
-    pick-by (λ (r : CallResult). LowBook r.book) (eqb d.answer.number 0) (λ e. put_low b k i (unmoved (line_of b i) s) (arrived_low (line_of b i) (k i) s))
+    pick_by (λ (r : CallResult). LowBook r.book) (eqb d.answer.number 0) (λ e. put_low b k i (unmoved (line_of b i) s) (arrived_low (line_of b i) (k i) s))
     (λ e. subst LowBook (sym (call_refused (record { book = b; store = store }) (call.arrival s) out e).book) k)
 call_low (call.hand_out i channel) b store out k = ours_low (call.hand_out i channel) b store out k (λ e. k i)
 call_low (call.report i channel) b store out k = ours_low (call.report i channel) b store out k (λ e. k i)
@@ -185,7 +185,7 @@ goes_low k (here w s) = step_low (goes_low k w) s
 goes_low k (there w s) = goes_low k w
 
 begins_low : LowBook fresh_book
-begins_low k = subst LowLine (sym (getD-alike 4 k closed_line)) fresh_low
+begins_low k = subst LowLine (sym (get_or_alike 4 k closed_line)) fresh_low
 
 -- a run in modem relay at both ends, with n messages taken on channel 2
 record Grown (n : ℕ) : Type 0 where
@@ -228,7 +228,7 @@ module _ (d : Demand3 never_moves) where
   few : (n : ℕ) → Grown n → n ≤ 8
   few n r =
       let counted = ((d.promised (run f r.goes)).there 2 refl).counted in
-      let taken : (sends_by r.here 0 r.mine 2).S ≤ 8 = pick-by (λ (l : Line). (sending_of l 2).taken ≤ 8) r.mine.opened (λ _. (goes_low begins_low r.goes 0 2).few) (λ _. omega arith) in
+      let taken : (sends_by r.here 0 r.mine 2).S ≤ 8 = pick_by (λ (l : Line). (sending_of l 2).taken ≤ 8) r.mine.opened (λ _. (goes_low begins_low r.goes 0 2).few) (λ _. omega arith) in
       omega (arith, counted, taken, r.count)
 
   nine : (n : ℕ) → n ≤ 9 → Grown n

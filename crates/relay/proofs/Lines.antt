@@ -13,7 +13,7 @@ use Rattle.ground.specs.Refusal.{must, verdict}
 use Rattle.ground.specs.declared.Refusal.TheVariants.{SIZE, ROOM}
 use Rattle.ground.specs.declared.Verdict.TheVariants.{Pass}
 use Rattle.ground.proofs.Verdicts.{Holds, passed, pass_both}
-use Rattle.ground.proofs.Picks.{both_true, pick-lt}
+use Rattle.ground.proofs.Picks.{both_true, pick_lt}
 use Rattle.ground.proofs.Either.{or_cases}
 use Rattle.places.specs.Places.{widest}
 use Rattle.channel.specs.Channel.{cap}
@@ -71,7 +71,7 @@ channel_span channel e =
 
 -- the message at the first place is no place further on
 place_first : (w origin : ℕ) → origin < w → place_of origin 0 w ≡ origin
-place_first w origin h = pick-lt (λ (p : ℕ). p ≡ origin) (origin + 0) w (λ l. omega arith) (λ l. absurd (omega arith))
+place_first w origin h = pick_lt (λ (p : ℕ). p ≡ origin) (origin + 0) w (λ l. omega arith) (λ l. absurd (omega arith))
 
 -- so the channel has slots, both ways, and each place of its window has one in the line's part
 pub side_served : (way : Way) (channel : ℕ) → reliable channel ≡ true → Served (record { way = way; channel = channel })

@@ -9,7 +9,7 @@ use borrow.Author.Tests.{eqb-true, le-leb}
 use Rattle.ground.specs.Refusal.{verdict}
 use Rattle.ground.specs.declared.Verdict.TheVariants.{Pass}
 use Rattle.ground.proofs.Verdicts.{passed, passes}
-use Rattle.ground.proofs.Settled.{settles-took}
+use Rattle.ground.proofs.Settled.{settles_took}
 use Rattle.field.proofs.Packs.{reads_whole}
 use Rattle.breaks.specs.Break.{layout, break_at, break_fits, break_octets, break_read, read_tests, write_tests}
 use Rattle.breaks.specs.declared.Break.{Break}
@@ -26,7 +26,7 @@ round b space ok =
     let r = reads_whole 2 (layout b) (fits_room b t.0) refl in
     let s : List ℕ = break_octets b in
     let e : break_at s ≡ b = λ i. record { source = r.0 i; kind = r.1.0 i; lasts = r.1.1.0 i } in
-    sym (settles-took (verdict (read_tests s)) Refused (Says (break_at s)) refl (passes (read_tests s) (refl, (ap break_fits e ∙ t.0, tt))) (ap Says (sym e)))
+    sym (settles_took (verdict (read_tests s)) Refused (Says (break_at s)) refl (passes (read_tests s) (refl, (ap break_fits e ∙ t.0, tt))) (ap Says (sym e)))
 
 -- two bodies that are written alike are one
 pub written_once : (b d : Break) (m n : ℕ) → verdict (write_tests b m) ≡ Pass → verdict (write_tests d n) ≡ Pass → break_octets b ≡ break_octets d → b ≡ d

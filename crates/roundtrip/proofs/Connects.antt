@@ -13,7 +13,7 @@ use Rattle.ground.specs.Refusal.{verdict}
 use Rattle.ground.specs.declared.Verdict.TheVariants.{Pass}
 use Rattle.ground.proofs.Picks.{each, both_true}
 use Rattle.ground.proofs.Verdicts.{passed, passes}
-use Rattle.ground.proofs.Settled.{settles-took}
+use Rattle.ground.proofs.Settled.{settles_took}
 use Rattle.field.specs.Layout.{packed, InWidth, Reads}
 use Rattle.field.proofs.Laws.{bits_past}
 use Rattle.field.proofs.Packs.{room_append, reads_whole, reads_append}
@@ -123,7 +123,7 @@ module _ (c : Connect) (space : ℕ) (ok : verdict (write_tests c space) ≡ Pas
       let l : length s ≡ size_of (compression_at s) = body_length c ∙ ap size_of (sym p) in
       let q : compression_at s < 4 = omega arith in
       let eight : 8 ≤ length s = omega (arith, body_length c, size_least c.compression) in
-      sym (settles-took (verdict (read_tests s)) Refused (Says (connect_at s)) refl
+      sym (settles_took (verdict (read_tests s)) Refused (Says (connect_at s)) refl
       (passes (read_tests s) (le-leb _ _ eight, (lt-ltb _ _ q, (eq-eqb _ _ l, (ap sizes_fit e ∙ b.1, tt))))) (ap Says (sym e)))
 
 -- two bodies that are written alike are one

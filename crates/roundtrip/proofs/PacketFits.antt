@@ -11,7 +11,7 @@ use borrow.Author.Tests.{leb-true, eqb-true, lt-ltb, le-leb}
 use Rattle.ground.specs.Pick.{pick, all_hold}
 use Rattle.ground.specs.Refusal.{verdict}
 use Rattle.ground.specs.declared.Verdict.TheVariants.{Pass}
-use Rattle.ground.proofs.Picks.{together, pick-by}
+use Rattle.ground.proofs.Picks.{together, pick_by}
 use Rattle.ground.proofs.Verdicts.{passed, passes}
 use Rattle.field.specs.Bits.{bits_at}
 use Rattle.field.proofs.Laws.{bits_lt}
@@ -33,7 +33,7 @@ placed false e true number base h = rw (h refl) refl
 placed false e false number base h = refl
 
 pick_zero : (t : Bool) (n k : ℕ) → n < k → pick t 0 n < k
-pick_zero t n k h = pick-by (λ (m : ℕ). m < k) t (λ e. omega arith) (λ e. h)
+pick_zero t n k h = pick_by (λ (m : ℕ). m < k) t (λ e. omega arith) (λ e. h)
 
 module _ (s : List ℕ) where
   few : count_at s < 2 ^ 2

@@ -11,7 +11,7 @@ use lib.Seq.{get_or-take}
 use borrow.Author.Tests.{leb-true, eqb-true, lt-ltb}
 use Rattle.ground.specs.Refusal.{verdict}
 use Rattle.ground.specs.declared.Verdict.TheVariants.{Pass}
-use Rattle.ground.proofs.Picks.{each, pick-by}
+use Rattle.ground.proofs.Picks.{each, pick_by}
 use Rattle.ground.proofs.Verdicts.{passed}
 use Rattle.field.specs.Bits.{bits_at}
 use Rattle.field.specs.Layout.{widths, Reads}
@@ -143,9 +143,9 @@ module _ (s : List ℕ) (o : Octets s) (plain : verdict (head_tests s) ≡ Pass)
   pub octets_round : packet_octets (head_at s) (acks_at s) (payload_of s) ≡ packet_again s
   unfolding packet_again
   octets_round =
-      pick-by (λ (t : List ℕ). packet_octets (head_at s) (acks_at s) (payload_of s) ≡ t) (eqb (channel_at s) 0)
+      pick_by (λ (t : List ℕ). packet_octets (head_at s) (acks_at s) (payload_of s) ≡ t) (eqb (channel_at s) 0)
       (λ e. shown (cleared u 34 14) (shows_none e))
-      (λ e. pick-by (λ (t : List ℕ). packet_octets (head_at s) (acks_at s) (payload_of s) ≡ t) (leb (length s) (header_length s))
+      (λ e. pick_by (λ (t : List ℕ). packet_octets (head_at s) (acks_at s) (payload_of s) ≡ t) (leb (length s) (header_length s))
       (λ f. shown u (shows_empty e f))
       (λ f. shown s (shows_all e f)))
 

@@ -12,9 +12,9 @@ use borrow.Author.Tests.{ltb-true, leb-true, eqb-true, eqb-false, lt-ltb, le-ltb
 use Rattle.ground.specs.Pick.{all_hold}
 use Rattle.ground.specs.Refusal.{verdict}
 use Rattle.ground.specs.declared.Verdict.TheVariants.{Pass}
-use Rattle.ground.proofs.Picks.{each, both_true, pick-by, pick-lt, together}
+use Rattle.ground.proofs.Picks.{each, both_true, pick_by, pick_lt, together}
 use Rattle.ground.proofs.Verdicts.{Holds, passed, passes}
-use Rattle.ground.proofs.Settled.{settles-took}
+use Rattle.ground.proofs.Settled.{settles_took}
 use Rattle.field.specs.Bits.{bits_at}
 use Rattle.field.specs.Layout.{Field, octets, word_octets, widths, join, packed, Reads}
 use Rattle.field.proofs.Packs.{Wide, pack_cut, reads_back, word_there}
@@ -96,7 +96,7 @@ module _ (h : Head) (a : Acks) (payload : List ℕ) (largest space : ℕ) (ok : 
   ack_back : (k w : ℕ) → blank a.count k w ≡ true → (k < a.count → get_or (ack_list a) k 0 ≡ w) → ack_at s k ≡ w
   unfolding ack_at
   ack_back k w b f =
-      pick-lt (λ (x : ℕ). x ≡ w) k (count_at s)
+      pick_lt (λ (x : ℕ). x ≡ w) k (count_at s)
       (λ l. rw parts (word_there (packed (fixed_fields h a.count)) (ack_list a) payload k wide (omega (arith, list_length a count, counted))) ∙ f (omega (arith, counted)))
       (λ l. sym (eqb-true w 0 (rw (le-ltb k a.count (omega (arith, counted))) at b)))
 
@@ -133,16 +133,16 @@ module _ (h : Head) (a : Acks) (payload : List ℕ) (largest space : ℕ) (ok : 
   number_back : number_at s ≡ h.number
   unfolding number_at
   number_back =
-      pick-by (λ (x : ℕ). x ≡ h.number) (eqb (channel_at s) 0)
+      pick_by (λ (x : ℕ). x ≡ h.number) (eqb (channel_at s) 0)
       (λ t. sym (on_none (sym own ∙ eqb-true _ _ t)).0)
-      (λ t. pick-by (λ (x : ℕ). x ≡ h.number) (leb (length s) (header_length s))
+      (λ t. pick_by (λ (x : ℕ). x ≡ h.number) (leb (length s) (header_length s))
       (λ u. let l : length s ≤ header_length s = leb-true _ _ u in sym (on_empty (λ c. eqb-false _ _ t (own ∙ c)) (omega (arith, long, counted))))
       (λ u. fixed.1.1.1.1.1.0))
 
   base_back : base_at s ≡ h.base
   unfolding base_at
   base_back =
-      pick-by (λ (x : ℕ). x ≡ h.base) (eqb (channel_at s) 0)
+      pick_by (λ (x : ℕ). x ≡ h.base) (eqb (channel_at s) 0)
       (λ t. sym (on_none (sym own ∙ eqb-true _ _ t)).1)
       (λ t. fixed.1.1.1.1.1.1.1.0)
 
@@ -156,7 +156,7 @@ module _ (h : Head) (a : Acks) (payload : List ℕ) (largest space : ℕ) (ok : 
   head_round =
       let l : 6 ≤ length s = omega (arith, long) in
       let f = together (eqb (bits_at s 0 1) 0 ∷ eqb (bits_at s 8 1) 0 ∷ []) (eq-eqb _ _ fixed.0, (eq-eqb _ _ fixed.1.1.0, tt)) in
-      sym (settles-took (verdict (head_tests s)) head.Refused (head.Says (head_at s)) refl (passes (head_tests s) (le-leb _ _ l, (f, tt))) (ap head.Says (sym head_back)))
+      sym (settles_took (verdict (head_tests s)) head.Refused (head.Says (head_at s)) refl (passes (head_tests s) (le-leb _ _ l, (f, tt))) (ap head.Says (sym head_back)))
 
   -- the acknowledgements read back
   pub acks_round : acks_read (packet_octets h a payload) ≡ acks.Says a
@@ -165,7 +165,7 @@ module _ (h : Head) (a : Acks) (payload : List ℕ) (largest space : ℕ) (ok : 
       let l : header_length s ≤ length s = omega (arith, long, counted) in
       let c : channel_at s < 3 = omega (arith, own, channel) in
       let f = together (ltb (channel_at s) 3 ∷ acks_served (acks_at s) ∷ []) (lt-ltb _ _ c, (ap acks_served acks_back ∙ all_served, tt)) in
-      sym (settles-took (verdict (list_tests s)) acks.Refused (acks.Says (acks_at s)) refl (passes (list_tests s) (le-leb _ _ l, (f, tt))) (ap acks.Says (sym acks_back)))
+      sym (settles_took (verdict (list_tests s)) acks.Refused (acks.Says (acks_at s)) refl (passes (list_tests s) (le-leb _ _ l, (f, tt))) (ap acks.Says (sym acks_back)))
 
   -- the payload reads back, and is not too large
   pub payload_round : payload_of (packet_octets h a payload) ≡ payload

@@ -11,7 +11,7 @@ use Rattle.ground.specs.Refusal.{verdict}
 use Rattle.ground.specs.declared.Verdict.TheVariants.{Pass}
 use Rattle.ground.proofs.Picks.{each, together}
 use Rattle.ground.proofs.Verdicts.{passed, passes}
-use Rattle.ground.proofs.Settled.{settles-took}
+use Rattle.ground.proofs.Settled.{settles_took}
 use Rattle.field.specs.Bits.{bits_at}
 use Rattle.field.specs.Layout.{Reads}
 use Rattle.field.proofs.Packs.{reads_whole}
@@ -32,7 +32,7 @@ round v space ok =
     let q = r.1 in
     let e : slip_at s ≡ v = λ i. record { identifier = q.0 i; kind = q.1.0 i; count1 = q.1.1.0 i; count2 = q.1.1.1.0 i; reason = q.1.1.1.1.0 i } in
     let f = together (eqb (bits_at s 0 4) 1 ∷ eqb (bits_at s 74 22) 0 ∷ []) (eq-eqb _ _ r.0, (eq-eqb _ _ q.1.1.1.1.1.0, tt)) in
-    sym (settles-took (verdict (read_tests s)) Refused (Says (slip_at s)) refl (passes (read_tests s) (refl, (f, (ap slip_fits e ∙ t.0, tt)))) (ap Says (sym e)))
+    sym (settles_took (verdict (read_tests s)) Refused (Says (slip_at s)) refl (passes (read_tests s) (refl, (f, (ap slip_fits e ∙ t.0, tt)))) (ap Says (sym e)))
 
 -- Two slips that are written alike are one.
 pub written_once : (v w : Slip) (m n : ℕ) → verdict (write_tests v m) ≡ Pass → verdict (write_tests w n) ≡ Pass → slip_octets v ≡ slip_octets w → v ≡ w

@@ -2,7 +2,7 @@
 -- Assumes nothing.
 use Rattle.std.proofs.Common.{◌≡◌, ℕ, ◌+◌, ◌-◌, ◌<◌, ◌≤◌, arith, le-leb}
 use borrow.Author.Tests.{lt-leb}
-use Rattle.ground.proofs.Picks.{pick-lt}
+use Rattle.ground.proofs.Picks.{pick_lt}
 use Rattle.words.specs.Digits.{hex_digit, upper_digit}
 
 module _ (d : ℕ) where
@@ -39,6 +39,6 @@ module _ (d : ℕ) where
 pub digit_back : (v : ℕ) → v < 16 → hex_digit (upper_digit v) ≡ v
 unfolding upper_digit
 digit_back v h =
-    pick-lt (λ (d : ℕ). hex_digit d ≡ v) v 10
+    pick_lt (λ (d : ℕ). hex_digit d ≡ v) v 10
     (λ l. omega (arith, decimal (48 + v) (omega arith) (omega arith)))
     (λ l. omega (arith, upper (55 + v) (omega arith) (omega arith)))

@@ -1,7 +1,7 @@
 -- A number read digit by digit is what its digits say.
 -- Assumes nothing.
 use Rattle.std.proofs.Common.{◌≡◌, ℕ, suc, ◌+◌, ◌^◌, ◌<◌, ◌≤◌, ltb, List, [], ◌∷◌, length, get_or, drop, sym, ap, ◌∙◌, add-one, arith, drop_of_length-le, drop-cons, ltb-false, le-ltb, lt-ltb}
-use Rattle.ground.proofs.Picks.{pick-by, and_false}
+use Rattle.ground.proofs.Picks.{pick_by, and_false}
 use Rattle.words.specs.Digits.{is_digit, all_digits, grown, value_from, says_from, longer_by}
 use Rattle.words.specs.declared.digits.Number.{Number}
 use Rattle.words.specs.declared.digits.Number.TheVariants.{Says, Nothing}
@@ -20,8 +20,8 @@ follow Nothing w = Nothing
 pub follows : (n d : ℕ) (ds : List ℕ) → says_from n (d ∷ ds) ≡ follow (longer_by n d) ds
 unfolding says_from longer_by all_digits value_from
 follows n d ds =
-    pick-by (λ (r : Number). says_from n (d ∷ ds) ≡ follow r ds) (is_digit d)
-    (λ t. pick-by (λ (r : Number). says_from n (d ∷ ds) ≡ follow r ds) (ltb (grown n d) (2 ^ 64))
+    pick_by (λ (r : Number). says_from n (d ∷ ds) ≡ follow r ds) (is_digit d)
+    (λ t. pick_by (λ (r : Number). says_from n (d ∷ ds) ≡ follow r ds) (ltb (grown n d) (2 ^ 64))
     (λ u. simp t)
     (λ u. simp (le-ltb (value_from (grown n d) ds) (2 ^ 64) (omega (arith, grows (grown n d) ds, ltb-false (grown n d) (2 ^ 64) u)), and_false)))
     (λ t. simp t)

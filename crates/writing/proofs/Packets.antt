@@ -14,7 +14,7 @@ use Rattle.ground.specs.declared.Verdict.{Verdict}
 use Rattle.ground.specs.declared.WriteAnswer.{WriteAnswer}
 use Rattle.ground.specs.declared.WriteAnswer.TheVariants.{Wrote, Refused}
 use Rattle.ground.specs.declared.Verdict.TheVariants.{Pass}
-use Rattle.ground.proofs.Picks.{each, together, both_true, pick-by, pick-lt}
+use Rattle.ground.proofs.Picks.{each, together, both_true, pick_by, pick_lt}
 use Rattle.ground.proofs.Verdicts.{Holds, passed, passes}
 use Rattle.field.specs.Word.{served}
 use Rattle.packet.specs.Acks.{named, blank, acks_served, acks_blank}
@@ -39,11 +39,11 @@ spans_at (w ∷ ws) (suc k) e l = spans_at ws k (both_true (served w) (all_spans
 module _ (ws : List ℕ) (k : ℕ) (few : k < 3) where
   blank_at : blank (min 3 (length ws)) k (get_or ws k 0) ≡ true
   blank_at =
-      pick-lt (λ (t : Bool). t ≡ true) k (min 3 (length ws)) (λ l. refl)
+      pick_lt (λ (t : Bool). t ≡ true) k (min 3 (length ws)) (λ l. refl)
       (λ l. let h : length ws ≤ k = omega arith in eq-eqb _ _ (get_or-eq_default ws 0 h))
 
   named_at : all_spans ws ≡ true → named (min 3 (length ws)) k (get_or ws k 0) ≡ true
-  named_at e = pick-lt (λ (t : Bool). t ≡ true) k (min 3 (length ws)) (λ l. spans_at ws k e (omega arith)) (λ l. refl)
+  named_at e = pick_lt (λ (t : Bool). t ≡ true) k (min 3 (length ws)) (λ l. spans_at ws k e (omega arith)) (λ l. refl)
 
 module _ (l : Line) where
   abbrev ws : List ℕ
@@ -68,7 +68,7 @@ module _ (l : Line) where
 
   base_lt : (channel : ℕ) → base_for l channel < 16384
   unfolding base_for
-  base_lt channel = pick-by (λ (n : ℕ). n < 16384) (eqb channel 0) (λ _. omega arith) (λ _. omega arith)
+  base_lt channel = pick_by (λ (n : ℕ). n < 16384) (eqb channel 0) (λ _. omega arith) (λ _. omega arith)
 
   -- with a number of 14 bits that has its place, a payload of a size that fits, and room
   pub packet_passes : LineOk l → (channel number space : ℕ) (payload : List ℕ) → channel ≤ 2 → number < 16384
@@ -104,11 +104,11 @@ module _ (l : Line) (fits : line_fits l ≡ true) (channel space : ℕ) (pass : 
 
   placed : numbers_placed (head_for l channel 0) 0 ≡ true
   unfolding numbers_placed base_for
-  placed = pick-by (λ (t : Bool). t ≡ true) (eqb channel 0) (λ e. rw e) (λ e. refl)
+  placed = pick_by (λ (t : Bool). t ≡ true) (eqb channel 0) (λ e. rw e) (λ e. refl)
 
   fitting : size_fits channel 0 (send_largest l) ≡ true
   unfolding size_fits
-  fitting = pick-by (λ (t : Bool). t ≡ true) (eqb channel 0) (λ e. refl) (λ e. refl)
+  fitting = pick_by (λ (t : Bool). t ≡ true) (eqb channel 0) (λ e. refl) (λ e. refl)
 
   pub empty_passes : verdict (write_tests (head_for l channel 0) (acks_for l) [] (send_largest l) space) ≡ Pass
   unfolding empty_tests empty_packet
