@@ -9,17 +9,14 @@ use lib.Dec.{lit<, eqb, ltb, leb}
 use lib.ListN.{length, take, drop, length-drop}
 use lib.Seq.{take-length}
 use borrow.Author.Tests.{eqb-true, eqb-false, ltb-true, leb-true, eq-eqb, lt-ltb, le-ltb}
-use Rattle.ground.specs.Refusal.{must, verdict, settle}
+use Rattle.std.specs.Prelude.{Result, Ok, Err}
+use Rattle.ground.specs.Refusal.{Verdict, must, verdict, settle}
 use Rattle.ground.specs.declared.Refusal.TheVariants.{SIZE}
-use Rattle.ground.specs.declared.Verdict.{Verdict}
-use Rattle.ground.specs.declared.Verdict.TheVariants.{Pass, Refuse}
 use Rattle.ground.specs.declared.Refusal.{Refusal}
 use Rattle.ground.proofs.Verdicts.{Holds, passed, verdict_on, verdict_stop}
 use Rattle.ground.proofs.Picks.{pick_by, each}
 use Rattle.field.proofs.Laws.{bits_lt}
 use Rattle.packet.specs.declared.Acks.{Acks}
-use Rattle.packet.specs.declared.AcksReading.{AcksReading}
-use Rattle.packet.specs.declared.AcksReading.TheVariants as acks
 use Rattle.packet.specs.Acks.{ack_list, acks_served}
 use Rattle.packet.specs.Read.{channel_at, header_length, number_at, head_at, acks_at, payload_of, size_fits, payload_fits, list_tests, acks_read}
 use Rattle.mode.specs.Given.{modem}
@@ -39,24 +36,24 @@ news_relaying l k s = all_relaying (ack_list (acks_at s)) (heard_line l (head_at
 
 -- what the readings of a packet say of their tests, and the tests of the readings
 module _ (s : List ℕ) where
-  pub list_refused : {r : Refusal} → acks_read s ≡ acks.Refused r → verdict (list_tests s) ≡ Refuse r
+  pub list_refused : {r : Refusal} → acks_read s ≡ Err r → verdict (list_tests s) ≡ Err r
   list_refused {r} = go (verdict (list_tests s))
     where
-      go : (v : Verdict) → settle v acks.Refused (acks.Says (acks_at s)) ≡ acks.Refused r → v ≡ Refuse r
-      go Pass e = absurd (let z : ◌≡◌ {A = ℕ} 0 1 = cc in omega arith)
-      go (Refuse q) e = cc
+      go : (v : Verdict) → settle v Err (Ok (acks_at s)) ≡ Err r → v ≡ Err r
+      go (Ok tt) e = absurd (let z : ◌≡◌ {A = ℕ} 0 1 = cc in omega arith)
+      go (Err q) e = cc
 
-  pub list_said : {a : Acks} → acks_read s ≡ acks.Says a → verdict (list_tests s) ≡ Pass
+  pub list_said : {a : Acks} → acks_read s ≡ Ok a → verdict (list_tests s) ≡ Ok tt
   list_said {a} = go (verdict (list_tests s))
     where
-      go : (v : Verdict) → settle v acks.Refused (acks.Says (acks_at s)) ≡ acks.Says a → v ≡ Pass
-      go Pass e = refl
-      go (Refuse q) e = absurd (let z : ◌≡◌ {A = ℕ} 0 1 = cc in omega arith)
+      go : (v : Verdict) → settle v Err (Ok (acks_at s)) ≡ Ok a → v ≡ Ok tt
+      go (Ok tt) e = refl
+      go (Err q) e = absurd (let z : ◌≡◌ {A = ℕ} 0 1 = cc in omega arith)
 
   -- a list that is read is what the octets say
-  pub list_is : {a : Acks} → acks_read s ≡ acks.Says a → a ≡ acks_at s
+  pub list_is : {a : Acks} → acks_read s ≡ Ok a → a ≡ acks_at s
   list_is {a} p =
-      let q : acks.Says a ≡ acks.Says (acks_at s) = sym p ∙ ap (λ (v : Verdict). settle v acks.Refused (acks.Says (acks_at s))) (list_said p) in
+      let q : Ok a ≡ Ok (acks_at s) = sym p ∙ ap (λ (v : Verdict). settle v Err (Ok (acks_at s))) (list_said p) in
       cc
 
   -- a packet's numbers are of 14 bits, and it has three acknowledgements at most
@@ -80,32 +77,32 @@ module _ (s : List ℕ) where
   payload_rest at e = (λ i. take (length s - e i) (drop (e i) s)) ∙ ap (λ (n : ℕ). take n (drop (header_length s) s)) (sym (length-drop (header_length s) s)) ∙ take-length (drop (header_length s) s)
 
 -- what the tests settle on: why the packet is refused, or what it acknowledges
-abbrev pub settled : List ℕ → Verdict → AcksReading
-settled s v = settle v acks.Refused (acks.Says (acks_at s))
+abbrev pub settled : List ℕ → Verdict → Result Acks Refusal
+settled s v = settle v Err (Ok (acks_at s))
 
 -- the line's own tests hold: the list's tests decide, and then the payload's
 module _ (l : Line) (s : List ℕ) (kind : (head_at s).kind ≡ l.kind) (inside : l.modes.local ≡ modem) where
-  pub arrive_refused : {r : Refusal} → verdict (list_tests s) ≡ Refuse r → acks.Refused r ≡ settled s (verdict (arrive_tests l s))
+  pub arrive_refused : {r : Refusal} → verdict (list_tests s) ≡ Err r → Err r ≡ settled s (verdict (arrive_tests l s))
   unfolding arrive_tests
   arrive_refused {r} e =
-      let f : Refuse r ≡ verdict (arrive_tests l s) = rw (eq-eqb _ _ kind, eq-eqb _ _ inside) (sym (verdict_stop (list_tests s) (must (payload_fits s (receive_largest l)) SIZE ∷ []) e)) in
+      let f : Err r ≡ verdict (arrive_tests l s) = rw (eq-eqb _ _ kind, eq-eqb _ _ inside) (sym (verdict_stop (list_tests s) (must (payload_fits s (receive_largest l)) SIZE ∷ []) e)) in
       ap (settled s) f
 
-  arrive_sized : verdict (list_tests s) ≡ Pass → verdict (must (payload_fits s (receive_largest l)) SIZE ∷ []) ≡ verdict (arrive_tests l s)
+  arrive_sized : verdict (list_tests s) ≡ Ok tt → verdict (must (payload_fits s (receive_largest l)) SIZE ∷ []) ≡ verdict (arrive_tests l s)
   unfolding arrive_tests
   arrive_sized e = rw (eq-eqb _ _ kind, eq-eqb _ _ inside) (sym (verdict_on (list_tests s) (must (payload_fits s (receive_largest l)) SIZE ∷ []) e))
 
-  pub arrive_passes : verdict (list_tests s) ≡ Pass → payload_fits s (receive_largest l) ≡ true → verdict (arrive_tests l s) ≡ Pass
+  pub arrive_passes : verdict (list_tests s) ≡ Ok tt → payload_fits s (receive_largest l) ≡ true → verdict (arrive_tests l s) ≡ Ok tt
   arrive_passes e f = sym (arrive_sized e) ∙ ap (λ (t : Bool). verdict (must t SIZE ∷ [])) f
 
-  pub arrive_passed : verdict (list_tests s) ≡ Pass → payload_fits s (receive_largest l) ≡ true → acks.Says (acks_at s) ≡ settled s (verdict (arrive_tests l s))
+  pub arrive_passed : verdict (list_tests s) ≡ Ok tt → payload_fits s (receive_largest l) ≡ true → Ok (acks_at s) ≡ settled s (verdict (arrive_tests l s))
   arrive_passed e f = ap (settled s) (ap (λ (t : Bool). verdict (must t SIZE ∷ [])) (sym f) ∙ arrive_sized e)
 
-  pub arrive_large : verdict (list_tests s) ≡ Pass → payload_fits s (receive_largest l) ≡ false → acks.Refused SIZE ≡ settled s (verdict (arrive_tests l s))
+  pub arrive_large : verdict (list_tests s) ≡ Ok tt → payload_fits s (receive_largest l) ≡ false → Err SIZE ≡ settled s (verdict (arrive_tests l s))
   arrive_large e f = ap (settled s) (ap (λ (t : Bool). verdict (must t SIZE ∷ [])) (sym f) ∙ arrive_sized e)
 
 -- all tests pass
-module _ (l : Line) (s : List ℕ) (pass : verdict (arrive_tests l s) ≡ Pass) where
+module _ (l : Line) (s : List ℕ) (pass : verdict (arrive_tests l s) ≡ Ok tt) where
   tests : Holds (arrive_tests l s)
   tests = passed (arrive_tests l s) pass
 

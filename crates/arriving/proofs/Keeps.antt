@@ -9,8 +9,8 @@ use lib.Dec.{ltb, leb}
 use lib.ListN.{length, length-set}
 use lib.Seq.{sets, length-sets}
 use borrow.Author.Tests.{le-leb, ltb-true}
+use Rattle.std.specs.Prelude.{Ok}
 use Rattle.ground.specs.Refusal.{verdict}
-use Rattle.ground.specs.declared.Verdict.TheVariants.{Pass}
 use Rattle.ground.specs.Pick.{pick}
 use Rattle.ground.proofs.Picks.{pick_by}
 use Rattle.field.specs.Word.{channel_of, number_of, word_of}
@@ -128,7 +128,7 @@ module _ (l : Line) (k : Relaying l) (h : Shaped l) (channel number : ℕ) (c : 
       }
 
 -- so does the whole of an arrival
-module _ (l : Line) (s : List ℕ) (fits : line_fits l ≡ true) (opened : is_open l ≡ true) (h : Shaped l) (pass : verdict (arrive_tests l s) ≡ Pass) where
+module _ (l : Line) (s : List ℕ) (fits : line_fits l ≡ true) (opened : is_open l ≡ true) (h : Shaped l) (pass : verdict (arrive_tests l s) ≡ Ok tt) where
   relaying : Relaying l
   relaying = arrive_relaying l s pass fits opened
 
@@ -194,7 +194,7 @@ module _ (l : Line) (k : Relaying l) (start : ℕ) (store : List ℕ) (inside : 
       go There e = part_same start (part_length l) store
       go Old e = part_same start (part_length l) store
 
-  pub arrived_in_store : (s : List ℕ) → verdict (arrive_tests l s) ≡ Pass → with_part_at start (part_length l) store (arrived_part l s part) ≡ arrived_store l start s store
+  pub arrived_in_store : (s : List ℕ) → verdict (arrive_tests l s) ≡ Ok tt → with_part_at start (part_length l) store (arrived_part l s part) ≡ arrived_store l start s store
   unfolding arrived_part arrived_store
   arrived_in_store s pass = go (carries s) refl
     where

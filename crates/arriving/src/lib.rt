@@ -3,11 +3,10 @@
 // the line by its identifier is in `book`.
 #![tactic(auto)]
 
-ghost use Rattle.std.specs.Prelude.{◌≡◌, true, ◌≤◌, length};
-ghost use Rattle.ground.specs.Refusal.{verdict, settle};
-ghost use Rattle.ground.specs.declared.Verdict.TheVariants.{Pass};
+ghost use Rattle.std.specs.Prelude.{◌≡◌, true, ◌≤◌, length, Ok};
+ghost use Rattle.ground.specs.Refusal.{verdict};
+ghost use Rattle.ground.specs.Answer.{answered};
 ghost use Rattle.packet.specs.Read.{head_at, acks_at};
-ghost use Rattle.packet.specs.declared.AcksReading.{AcksReading};
 ghost use Rattle.line.specs.Fit.{line_fits};
 ghost use Rattle.line.specs.Line.{is_open};
 ghost use Rattle.line.specs.Part.{part_length};
@@ -16,38 +15,32 @@ ghost use Rattle.arriving.specs.Arrive.{arrive_tests, arrived_line, arrived_part
 use ground::Refusal;
 use line::Line;
 use mode::Modes;
-use packet::{Acks, AcksReading, Head};
+use packet::{Acks, Head};
 
 mod effect; // effect.rt: what a base, an acknowledgement and a payload do
 
 // May the packet take effect on its line, and what does it acknowledge? TYPE, MODE, SHORT for the list, CHANNEL, SIZE.
-pub fn may_arrive(l: Line, head: Head, s: &[u8]) -> AcksReading
+pub fn may_arrive(l: Line, head: Head, s: &[u8]) -> Result<Acks, Refusal>
     requires { head ≡ head_at s.now }
-    ensures { result ≡ settle (verdict (arrive_tests l s.now)) AcksReading.Refused (AcksReading.Says (acks_at s.now)) }
+    ensures { result ≡ answered (arrive_tests l s.now) (acks_at s.now) }
 {
     if head.kind != l.kind {
-        return AcksReading::Refused(Refusal::TYPE);
+        return Err(Refusal::TYPE);
     }
     if l.modes.local != Modes::MODEM {
-        return AcksReading::Refused(Refusal::MODE);
+        return Err(Refusal::MODE);
     }
-    let list = packet::read_acks(s);
-    match list {
-        AcksReading::Refused(r) => AcksReading::Refused(r),
-        AcksReading::Says(acks) => {
-            let largest = l.receive_largest() as usize;
-            if packet::size_fits(head.channel, s.len() - acks.header(), largest) {
-                AcksReading::Says(acks)
-            } else {
-                AcksReading::Refused(Refusal::SIZE)
-            }
-        }
+    let acks = packet::read_acks(s)?;
+    let largest = l.receive_largest() as usize;
+    if !packet::size_fits(head.channel, s.len() - acks.header(), largest) {
+        return Err(Refusal::SIZE);
     }
+    Ok(acks)
 }
 
 // The packet takes effect: base, acknowledgements as listed, payload. Its tests have passed, and read its head and its list.
 pub fn arrive(l: Line, part: &mut [u8], head: Head, acks: Acks, s: &[u8]) -> Line
-    requires { (line_fits l ≡ true) × (is_open l ≡ true) × (part_length l ≤ length part.old) × (verdict (arrive_tests l s.now) ≡ Pass) × (head ≡ head_at s.now) × (acks ≡ acks_at s.now) }
+    requires { (line_fits l ≡ true) × (is_open l ≡ true) × (part_length l ≤ length part.old) × (verdict (arrive_tests l s.now) ≡ Ok tt) × (head ≡ head_at s.now) × (acks ≡ acks_at s.now) }
     ensures { (result ≡ arrived_line l s.now) × (part.new ≡ arrived_part l s.now part.old) }
 {
     let heard = effect::base_heard(l, head.channel, head.base);

@@ -1,8 +1,8 @@
 -- What BOOK asks of a book, as facts: of each line, of its identifier, and of those that rest.
 -- Assumes nothing.
 use Prim.Native.Nat.{ℕ, zero, suc, ◌≤◌, ◌<◌}
-use mathlib.Core.Path.{◌≡◌, refl, sym, ◌∙◌}
-use mathlib.Core.Bool.{true, ◌&&◌}
+use mathlib.Core.Path.{◌≡◌, refl}
+use mathlib.Core.Bool.{true}
 use mathlib.Core.List.{List, [], ◌∷◌}
 use native.Mathlib.Omega.{arith}
 use native.Mathlib.Decide.{dec_lt}
@@ -12,9 +12,6 @@ use borrow.Author.Tests.{leb-true, le-leb}
 use Rattle.ground.proofs.Picks.{both_true, each, pick_by}
 use Rattle.owed.specs.Owed.{no_twice}
 use Rattle.book.specs.Resting.{all_span}
-use Rattle.book.specs.Marks.{new_in, marked, none}
-use Rattle.book.proofs.Spans.{span_append}
-use Rattle.book.proofs.Once.{new_append, new_once}
 use Rattle.line.specs.Line.{is_open, closed_line}
 use Rattle.line.specs.Fit.{line_fits}
 use Rattle.line.specs.declared.Line.{Line}
@@ -62,13 +59,6 @@ open_span (l ∷ ls) f =
     let b = both_true (line_fits l) (lines_fit ls) f in
     let r = open_span ls b.1 in
     pick_by (λ (xs : List ℕ). all_span xs ≡ true) (is_open l) (λ e. rw (line_span l b.0 e, r)) (λ e. r)
-
--- the open ones are marked, and each that rests finds no mark, exactly if none is there twice
-pub once_is : (b : Book) → lines_fit b.lines ≡ true → all_span (resting_of b) ≡ true
-    → (new_in none (open_in b.lines) && new_in (marked none (open_in b.lines)) (resting_of b)) ≡ no_twice (identifiers_of b)
-once_is b f s =
-    sym (new_append none (open_in b.lines) (resting_of b))
-    ∙ new_once (identifiers_of b) (span_append (open_in b.lines) (resting_of b) (open_span b.lines f) s)
 
 -- each line of a book fits; past the end stands a closed one
 pub line_fits_lem : (b : Book) → book_fits b ≡ true → (i : ℕ) → line_fits (line_of b i) ≡ true

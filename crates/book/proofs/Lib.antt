@@ -1,3 +1,4 @@
+pub mod Walks
 pub mod Turns
 pub mod Closing
 pub mod Facts

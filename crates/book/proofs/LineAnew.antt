@@ -9,6 +9,7 @@ use lib.Dec.{eqb}
 use lib.ListN.{length, get_or, set, take, drop}
 use lib.Seq.{set_split}
 use borrow.Author.Tests.{eq-eqb}
+use Rattle.std.specs.Prelude.{Option, Some}
 use Rattle.ground.specs.Pick.{pick}
 use Rattle.ground.proofs.Picks.{both_true}
 use Rattle.ground.proofs.Either.{or_true}
@@ -18,8 +19,6 @@ use Rattle.line.specs.Line.{is_open, closed_line}
 use Rattle.line.specs.Fit.{line_fits}
 use Rattle.line.specs.declared.Line.{Line}
 use Rattle.book.specs.Book.{open_keys, lines_fit, owner_by}
-use Rattle.book.specs.declared.Owner.{Owner}
-use Rattle.book.specs.declared.Owner.TheVariants.{At}
 
 -- What holds of each line, and of the one put anew, holds of each line then.
 pub set_by {ℓ} : {A : Type 0} (P : A → Type ℓ) (ls : List A) (i : ℕ) (l d : A) → P l → ((j : ℕ) → P (get_or ls j d)) → (j : ℕ) → P (get_or (set ls i l) j d)
@@ -96,7 +95,7 @@ module _ (key : Line → ℕ) where
     unfolding owner_by
     whose_closed k [] i x o = refl
     whose_closed k (y ∷ ls) zero x o = rw (c, o)
-    whose_closed k (y ∷ ls) (suc i) x o = ap (λ (w : Owner). pick (is_open y && eqb (key y) x) (At k) w) (whose_closed (suc k) ls i x o)
+    whose_closed k (y ∷ ls) (suc i) x o = ap (λ (w : Option ℕ). pick (is_open y && eqb (key y) x) (Some k) w) (whose_closed (suc k) ls i x o)
 
   -- An open line's key is among those that are open.
   pub open_member : (ls : List Line) (i : ℕ) → i < length ls → is_open (get_or ls i closed_line) ≡ true → member (key (get_or ls i closed_line)) (open_keys key ls) ≡ true

@@ -1,9 +1,9 @@
 -- Identifiers seen one after another and marked: none finds its place marked exactly if none stands in the list twice.
 -- Assumes nothing.
 use Prim.Native.Nat.{ℕ, ◌≤◌, ◌<◌}
-use mathlib.Core.Path.{◌≡◌, refl, sym, ap, ap₂, ◌∙◌}
-use mathlib.Core.Bool.{Bool, true, false, not, ◌&&◌, ◌||◌, and_assoc, and-true}
-use mathlib.Core.List.{List, [], ◌∷◌, ◌++◌}
+use mathlib.Core.Path.{◌≡◌, refl, ap, ap₂, ◌∙◌}
+use mathlib.Core.Bool.{Bool, true, false, not, ◌&&◌, ◌||◌}
+use mathlib.Core.List.{List, [], ◌∷◌}
 use native.Mathlib.Omega.{arith}
 use lib.Dec.{eqb, leb, lit<}
 use lib.ListN.{length, get_or, set, replicate, length-set}
@@ -14,30 +14,7 @@ use Rattle.ground.proofs.Either.{by_test}
 use Rattle.owed.specs.Owed.{member, no_twice}
 use Rattle.book.specs.Resting.{all_span}
 use Rattle.book.proofs.RestingTurns.{get_or_alike}
-use Rattle.book.specs.Marks.{new_in, marked, none}
-
--- What is still to be seen, after what was found and marked before, comes to t and to the marks n in the end.
-abbrev pub Comes : Bool → List ℕ → List ℕ → Bool → List ℕ → Type 0
-Comes o m l t n = ((o && new_in m l) ≡ t) × (marked m l ≡ n)
-
-module _ (o : Bool) (m : List ℕ) (t : Bool) (n : List ℕ) where
-  -- one identifier more is seen
-  pub comes_one : (x : ℕ) (l : List ℕ) → Comes o m (x ∷ l) t n → Comes (o && eqb (get_or m x 0) 0) (set m x 1) l t n
-  unfolding new_in marked
-  comes_one x l e = (and_assoc o (eqb (get_or m x 0) 0) (new_in (set m x 1) l) ∙ e.0, e.1)
-
-  -- there is no more
-  pub comes_end : Comes o m [] t n → (o ≡ t) × (m ≡ n)
-  unfolding new_in marked
-  comes_end e = (sym (and-true o) ∙ e.0, e.1)
-
--- one list behind another
-pub new_append : (m a b : List ℕ) → new_in m (a ++ b) ≡ (new_in m a && new_in (marked m a) b)
-unfolding new_in marked
-new_append m [] b = refl
-new_append m (x ∷ a) b =
-    ap (λ (t : Bool). eqb (get_or m x 0) 0 && t) (new_append (set m x 1) a b)
-    ∙ sym (and_assoc (eqb (get_or m x 0) 0) (new_in (set m x 1) a) (new_in (marked (set m x 1) a) b))
+use Rattle.book.specs.Marks.{new_in, none}
 
 -- each of these is without a mark, before any of them is marked
 all_new : List ℕ → List ℕ → Bool

@@ -5,8 +5,9 @@ use mathlib.Core.Path.{◌≡◌, sym, ap, ◌∙◌}
 use mathlib.Core.List.{List, [], ◌∷◌, ◌++◌, append_assoc}
 use native.Mathlib.Numerals.{add-one}
 use native.Mathlib.Omega.{arith}
-use lib.ListN.{length, set, take, drop, length-append, length-drop, drop_of_length-le}
-use lib.Seq.{paste, set_split, take_all, take-paste, length-paste, length-take-le, drop-append-le}
+use lib.ListN.{length, get_or, set, take, drop, length-append, length-drop, drop_of_length-le}
+use lib.Seq.{set_split, take_all, take-suc, length-take-le, drop-append-le}
+use Rattle.std.proofs.lemmas.List.{set_at}
 use Rattle.book.specs.Resting.{rests, rested_in}
 
 module _ (l : List ℕ) (x : ℕ) where
@@ -38,15 +39,12 @@ rested_few r n x h k =
     ∙ sym (set_split r n x k)
 
 -- or the oldest leaves, each other moves down, and it goes to the end
-pub rested_full : (r : List ℕ) (x : ℕ) → length r ≡ 16 → rested_in r (rests (take 16 r) x) ≡ set (paste r 0 (drop 1 r) 15) 15 x
-rested_full r x h =
-    let p = paste r 0 (drop 1 r) 15 in
+pub rested_full : (r : List ℕ) (n x : ℕ) → 16 ≤ n → length r ≡ 16 → rested_in r (rests (take n r) x) ≡ set (drop 1 r ++ take 1 r) 15 x
+rested_full r n x k h =
     let len : length (drop 1 r ++ (x ∷ [])) ≡ 16 = omega (arith, length-append (drop 1 r) (x ∷ []), length-drop 1 r) in
-    let long : length p ≡ 16 = length-paste r 0 (drop 1 r) 15 (omega arith) (omega (arith, length-drop 1 r)) ∙ h in
-    let front : take 15 p ≡ drop 1 r = take-paste r 0 (drop 1 r) 15 (omega arith) (omega (arith, length-drop 1 r)) ∙ take_all 15 (drop 1 r) (omega (arith, length-drop 1 r)) in
-    ap (λ (l : List ℕ). rested_in r (rests l x)) (take_all 16 r (omega arith))
+    ap (λ (l : List ℕ). rested_in r (rests l x)) (take_all n r (omega arith))
     ∙ ap (rested_in r) (rests_full r x h)
     ∙ ap (λ (m : ℕ). (drop 1 r ++ (x ∷ [])) ++ drop m r) len
     ∙ ap (λ (l : List ℕ). (drop 1 r ++ (x ∷ [])) ++ l) (drop_of_length-le r {i = 16} (omega arith))
     ∙ append_assoc (drop 1 r) (x ∷ []) []
-    ∙ sym (set_split p 15 x (omega arith) ∙ ap (λ (l : List ℕ). l ++ (x ∷ drop 16 p)) front ∙ ap (λ (l : List ℕ). drop 1 r ++ (x ∷ l)) (drop_of_length-le p {i = 16} (omega arith)))
+    ∙ sym (ap (λ (l : List ℕ). set (drop 1 r ++ l) 15 x) (take-suc r 0 0 (omega arith)) ∙ set_at (drop 1 r) (get_or r 0 0) [] x 15 (omega (arith, length-drop 1 r)))

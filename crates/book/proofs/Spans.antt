@@ -1,26 +1,22 @@
 -- Where all identifiers of a list are 0 to 127: of each, of two lists, of what is left.
 -- Assumes nothing.
-use Prim.Native.Nat.{ℕ, zero, suc, ◌≤◌, ◌<◌}
+use Prim.Native.Nat.{ℕ, zero, suc, ◌≤◌}
 use mathlib.Core.Path.{◌≡◌}
 use mathlib.Core.Bool.{true}
 use mathlib.Core.List.{List, [], ◌∷◌, ◌++◌}
 use native.Mathlib.Omega.{arith}
 use lib.Dec.{leb}
-use lib.ListN.{get_or, take, drop}
-use lib.Seq.{get_or-take}
+use lib.ListN.{get_or, drop}
 use borrow.Author.Tests.{leb-true}
 use Rattle.ground.proofs.Picks.{both_true}
 use Rattle.book.specs.Resting.{all_span}
 
 -- each is one of 0 to 127
-span_at : (l : List ℕ) → all_span l ≡ true → (i : ℕ) → get_or l i 0 ≤ 127
+pub span_at : (l : List ℕ) → all_span l ≡ true → (i : ℕ) → get_or l i 0 ≤ 127
 unfolding all_span
 span_at [] f i = omega arith
 span_at (x ∷ l) f zero = leb-true x 127 (both_true (leb x 127) (all_span l) f).0
 span_at (x ∷ l) f (suc i) = span_at l (both_true (leb x 127) (all_span l) f).1 i
-
-pub resting_at : (l : List ℕ) (n i : ℕ) → all_span (take n l) ≡ true → i < n → get_or l i 0 < 128
-resting_at l n i f h = omega (arith, span_at (take n l) f i, get_or-take n l i 0 h)
 
 pub span_append : (a b : List ℕ) → all_span a ≡ true → all_span b ≡ true → all_span (a ++ b) ≡ true
 unfolding all_span

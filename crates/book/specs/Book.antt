@@ -1,6 +1,6 @@
 -- A gateway's book: four lines (RULES 1.1), and the identifiers that rest. What BOOK asks of it (RULES 13.18).
 -- Assumes nothing.
-use Rattle.std.specs.Prelude.{ℕ, suc, Bool, true, ◌&&◌, List, [], ◌∷◌, ◌++◌, eqb, leb, get_or, set, take, replicate}
+use Rattle.std.specs.Prelude.{ℕ, suc, Bool, true, ◌&&◌, List, [], ◌∷◌, ◌++◌, eqb, leb, get_or, set, take, replicate, Option, Some, None}
 use Rattle.ground.specs.Pick.{pick, all_hold}
 use Rattle.owed.specs.Owed.{member, no_twice}
 use Rattle.book.specs.Resting.{all_span}
@@ -8,8 +8,6 @@ use Rattle.line.specs.Line.{is_open, closed_line}
 use Rattle.line.specs.Fit.{line_fits}
 use Rattle.line.specs.declared.Line.{Line}
 use Rattle.book.specs.declared.Book.{Book}
-use Rattle.book.specs.declared.Owner.{Owner}
-use Rattle.book.specs.declared.Owner.TheVariants.{At, Nobody}
 
 -- "as in a fresh book": four closed lines, and nothing rests (RULES 7.7)
 abbrev pub fresh_book : Book
@@ -32,9 +30,9 @@ open_keys key [] = []
 open_keys key (l ∷ ls) = pick (is_open l) (key l ∷ open_keys key ls) (open_keys key ls)
 
 -- the open line that has that key: the first from the front, where k lines stand before these
-unfoldable pub owner_by : (Line → ℕ) → ℕ → List Line → ℕ → Owner
-owner_by key k [] x = Nobody
-owner_by key k (l ∷ ls) x = pick (is_open l && eqb (key l) x) (At k) (owner_by key (suc k) ls x)
+unfoldable pub owner_by : (Line → ℕ) → ℕ → List Line → ℕ → Option ℕ
+owner_by key k [] x = None
+owner_by key k (l ∷ ls) x = pick (is_open l && eqb (key l) x) (Some k) (owner_by key (suc k) ls x)
 
 abbrev pub identifier_of : Line → ℕ
 identifier_of l = l.identifier
@@ -62,11 +60,11 @@ unfoldable pub book_fits : Book → Bool
 book_fits b = all_hold (lines_fit b.lines ∷ leb b.rested 16 ∷ all_span (resting_of b) ∷ no_twice (identifiers_of b) ∷ [])
 
 -- the open line that has the identifier (RULES 4.1)
-unfoldable pub owner_from : ℕ → List Line → ℕ → Owner
+unfoldable pub owner_from : ℕ → List Line → ℕ → Option ℕ
 unfolding owner_by
 owner_from = owner_by identifier_of
 
-abbrev pub owner_of : Book → ℕ → Owner
+abbrev pub owner_of : Book → ℕ → Option ℕ
 owner_of b identifier = owner_from 0 b.lines identifier
 
 -- "An identifier open on another line is taken. So is one among the last 16 closed." (RULES 7.2)

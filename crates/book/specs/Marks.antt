@@ -1,6 +1,5 @@
 -- A device of the proof: identifiers seen one after another and marked in 128 places. None comes twice exactly if each finds its
--- place without a mark, which is proved in proofs/Once.antt. The definitions stand here since contracts of steps of BOOK's test cite them;
--- what BOOK asks is said by `no_twice` and does not rest on them.
+-- place without a mark, which is proved in proofs/Once.antt. What BOOK asks is said by `no_twice` and does not rest on them.
 -- Assumes nothing.
 use Rattle.std.specs.Prelude.{ℕ, Bool, true, ◌&&◌, List, [], ◌∷◌, eqb, get_or, set, replicate}
 

@@ -10,11 +10,9 @@ use lib.ListN.{length}
 use lib.Seq.{sets}
 use lib.Bits.{bit_or}
 use borrow.Author.Tests.{ltb-true, leb-true}
-use Rattle.ground.specs.Refusal.{verdict}
+use Rattle.std.specs.Prelude.{Ok}
+use Rattle.ground.specs.Refusal.{Verdict, verdict}
 use Rattle.ground.specs.Answer.{Writes}
-use Rattle.ground.specs.declared.Verdict.{Verdict}
-use Rattle.ground.specs.declared.Verdict.TheVariants.{Pass}
-use Rattle.ground.specs.declared.WriteAnswer.TheVariants.{Wrote}
 use Rattle.ground.proofs.Picks.{each}
 use Rattle.ground.proofs.Verdicts.{passed}
 use Rattle.field.specs.Layout.{octets, join, InWidth}
@@ -33,9 +31,9 @@ fits_room b e =
     (omega arith, (omega arith, (omega arith, tt)))
 
 -- all tests pass: then the word that is stored is the body
-pub write_done : (b : Break) (l : List ℕ) {v : Verdict} → v ≡ verdict (write_tests b (length l)) → v ≡ Pass → {l₁ : List ℕ}
+pub write_done : (b : Break) (l : List ℕ) {v : Verdict} → v ≡ verdict (write_tests b (length l)) → v ≡ Ok tt → {l₁ : List ℕ}
     → l₁ ≡ sets l 0 (octets 2 (bit_or (bit_or (b.source * 2 ^ 4 % 2 ^ 16) b.kind * 2 ^ 8 % 2 ^ 16) b.lasts))
-    → Writes (write_tests b (length l)) (break_octets b) l l₁ (Wrote 2)
+    → Writes (write_tests b (length l)) (break_octets b) l l₁ (Ok 2)
 unfolding break_octets
 write_done b l e k q =
     let t = passed (write_tests b (length l)) (sym e ∙ k) in

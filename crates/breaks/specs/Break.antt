@@ -1,15 +1,14 @@
 -- The BREAK body: "BREAK (Table 26) is two octets: source 0 to 2, type 0 to 3, length in 10 ms" (RULES 12.1, RULES 12.2, RULES 12.3).
 -- Assumes nothing.
-use Rattle.std.specs.Prelude.{ℕ, Bool, List, [], ◌∷◌, length, ltb, leb, eqb}
+use Rattle.std.specs.Prelude.{ℕ, Bool, List, [], ◌∷◌, length, ltb, leb, eqb, Result, Ok, Err}
 use Rattle.ground.specs.Pick.{all_hold}
-use Rattle.ground.specs.Refusal.{Test, must, verdict, settle}
-use Rattle.ground.specs.Answer.{Answer, accepted, refused}
+use Rattle.ground.specs.Refusal.{Test, must}
+use Rattle.ground.specs.Answer.{Answer, accepted, refused, answered}
+use Rattle.ground.specs.declared.Refusal.{Refusal}
 use Rattle.ground.specs.declared.Refusal.TheVariants.{LENGTH, RANGE, ROOM}
 use Rattle.field.specs.Bits.{bits_at}
 use Rattle.field.specs.Layout.{Field, of, packed}
 use Rattle.breaks.specs.declared.Break.{Break}
-use Rattle.breaks.specs.declared.Reading.{Reading}
-use Rattle.breaks.specs.declared.Reading.TheVariants.{Says, Refused}
 
 -- source in bits 0 to 3, type in 4 to 7, length in 8 to 15 (RULES 12.1)
 unfoldable pub break_at : List ℕ → Break
@@ -35,9 +34,9 @@ abbrev pub write_tests : Break → ℕ → List Test
 write_tests b space = must (break_fits b) RANGE ∷ must (leb 2 space) ROOM ∷ []
 
 -- what each case of a reading stands for: source, type and length, or the refusal's number (RULES 17.3)
-abbrev pub answer_of : Reading → Answer
-answer_of (Says b) = accepted (b.source ∷ b.kind ∷ b.lasts ∷ [])
-answer_of (Refused r) = refused r
+abbrev pub answer_of : Result Break Refusal → Answer
+answer_of (Ok b) = accepted (b.source ∷ b.kind ∷ b.lasts ∷ [])
+answer_of (Err r) = refused r
 
-abbrev pub break_read : List ℕ → Reading
-break_read s = settle (verdict (read_tests s)) Refused (Says (break_at s))
+abbrev pub break_read : List ℕ → Result Break Refusal
+break_read s = answered (read_tests s) (break_at s)

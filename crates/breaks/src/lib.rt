@@ -6,7 +6,7 @@ ghost use Rattle.ground.specs.Refusal.{verdict};
 ghost use Rattle.ground.specs.Answer.{Gives, Writes};
 ghost use Rattle.breaks.specs.Break.{break_at, break_fits, break_octets, answer_of, read_tests, write_tests};
 
-use ground::{Refusal, Verdict, WriteAnswer};
+use ground::Refusal;
 
 #[derive(Clone, Copy)]
 pub struct Break {
@@ -16,13 +16,6 @@ pub struct Break {
     pub kind: u8,
     // How long it lasts, in 10 ms: 0 is the default length, 255 longer than 2.54 s.
     pub lasts: u8,
-}
-
-// What a body says, or why it says nothing.
-#[derive(Clone, Copy)]
-pub enum Reading {
-    Says(Break),
-    Refused(Refusal),
 }
 
 fn break_at(s: &[u8]) -> Break
@@ -36,58 +29,51 @@ fn break_at(s: &[u8]) -> Break
     }
 }
 
+#[tactic(auto, unfolding(crate::specs::Break::break_fits))]
 fn break_fits(b: Break) -> bool
     ensures { result ≡ break_fits b }
 {
-    (b.source < 3) & (b.kind < 4) & (b.lasts <= 255)
+    b.source < 3 && b.kind < 4
 }
 
-fn read_verdict(s: &[u8]) -> Verdict
+fn read_verdict(s: &[u8]) -> Result<(), Refusal>
     ensures { result ≡ verdict (read_tests s.now) }
 {
     if s.len() != 2 {
-        return Verdict::Refuse(Refusal::LENGTH);
+        return Err(Refusal::LENGTH);
     }
-    if break_fits(break_at(s)) {
-        Verdict::Pass
-    } else {
-        Verdict::Refuse(Refusal::RANGE)
+    if !break_fits(break_at(s)) {
+        return Err(Refusal::RANGE);
     }
+    Ok(())
 }
 
 // A body read: LENGTH, RANGE.
-pub fn read(s: &[u8]) -> Reading
-    ensures { Gives answer_of (read_tests s.now) Reading.Refused (Reading.Says (break_at s.now)) result }
+pub fn read(s: &[u8]) -> Result<Break, Refusal>
+    ensures { Gives answer_of (read_tests s.now) (break_at s.now) result }
 {
-    match read_verdict(s) {
-        Verdict::Pass => Reading::Says(break_at(s)),
-        Verdict::Refuse(r) => Reading::Refused(r),
-    }
+    read_verdict(s)?;
+    Ok(break_at(s))
 }
 
-fn write_verdict(b: Break, space: usize) -> Verdict
+fn write_verdict(b: Break, space: usize) -> Result<(), Refusal>
     ensures { result ≡ verdict (write_tests b space) }
 {
     if !break_fits(b) {
-        return Verdict::Refuse(Refusal::RANGE);
+        return Err(Refusal::RANGE);
     }
-    if 2 <= space {
-        Verdict::Pass
-    } else {
-        Verdict::Refuse(Refusal::ROOM)
+    if space < 2 {
+        return Err(Refusal::ROOM);
     }
+    Ok(())
 }
 
 // A body written: RANGE, ROOM.
-pub fn write(out: &mut [u8], b: Break) -> WriteAnswer
+pub fn write(out: &mut [u8], b: Break) -> Result<usize, Refusal>
     ensures { Writes (write_tests b (length out.old)) (break_octets b) out.old out.new result }
 {
-    match write_verdict(b, out.len()) {
-        Verdict::Refuse(r) => WriteAnswer::Refused(r),
-        Verdict::Pass => {
-            let word = ((b.source as u16) << 4 | b.kind as u16) << 8 | b.lasts as u16;
-            field::put_word(out, 0, word);
-            WriteAnswer::Wrote(2)
-        }
-    }
+    write_verdict(b, out.len())?;
+    let word = ((b.source as u16) << 4 | b.kind as u16) << 8 | b.lasts as u16;
+    field::put_word(out, 0, word);
+    Ok(2)
 }

@@ -7,9 +7,8 @@ use mathlib.Core.List.{List, [], ◌∷◌}
 use native.Mathlib.Omega.{arith}
 use lib.Dec.{leb}
 use borrow.Author.Tests.{leb-true}
-use Rattle.ground.specs.Refusal.{Test, verdict}
-use Rattle.ground.specs.declared.Verdict.{Verdict}
-use Rattle.ground.specs.declared.Verdict.TheVariants.{Pass}
+use Rattle.std.specs.Prelude.{Ok}
+use Rattle.ground.specs.Refusal.{Verdict, Test, verdict}
 use Rattle.ground.proofs.Verdicts.{passed, pass_both}
 use Rattle.line.specs.Fit.{line_fits}
 use Rattle.book.specs.Book.{line_of, book_fits}
@@ -29,23 +28,23 @@ there b i e n =
     let m : i ≤ 3 = leb-true _ _ n in
     record { book = e; few = (book_ok b e).few; number = omega arith; line = line_fits_lem b e i }
 
-pub on_line : (b : Book) (i : ℕ) → verdict (fit_book b ∷ line_number i ∷ []) ≡ Pass → OnLine b i
+pub on_line : (b : Book) (i : ℕ) → verdict (fit_book b ∷ line_number i ∷ []) ≡ Ok tt → OnLine b i
 on_line b i e =
     let t = passed (fit_book b ∷ line_number i ∷ []) e in
     there b i t.0 t.1.0
 
-pub on_both : (b : Book) (n i : ℕ) → verdict (fit_book b ∷ roomy b n ∷ line_number i ∷ []) ≡ Pass → OnLine b i × (store_length b ≤ n)
+pub on_both : (b : Book) (n i : ℕ) → verdict (fit_book b ∷ roomy b n ∷ line_number i ∷ []) ≡ Ok tt → OnLine b i × (store_length b ≤ n)
 on_both b n i e =
     let t = passed (fit_book b ∷ roomy b n ∷ line_number i ∷ []) e in
     (there b i t.0 t.1.1.0, leb-true _ _ t.1.0)
 
 -- and with what stands behind them
-pub line_passed : (b : Book) (i : ℕ) (ts : List Test) → verdict (fit_book b ∷ line_number i ∷ ts) ≡ Pass → OnLine b i × (verdict ts ≡ Pass)
+pub line_passed : (b : Book) (i : ℕ) (ts : List Test) → verdict (fit_book b ∷ line_number i ∷ ts) ≡ Ok tt → OnLine b i × (verdict ts ≡ Ok tt)
 line_passed b i ts e =
     let p = pass_both (fit_book b ∷ line_number i ∷ []) ts e in
     (on_line b i p.0, p.1)
 
-pub both_passed : (b : Book) (n i : ℕ) (ts : List Test) → verdict (fit_book b ∷ roomy b n ∷ line_number i ∷ ts) ≡ Pass → OnLine b i × (store_length b ≤ n) × (verdict ts ≡ Pass)
+pub both_passed : (b : Book) (n i : ℕ) (ts : List Test) → verdict (fit_book b ∷ roomy b n ∷ line_number i ∷ ts) ≡ Ok tt → OnLine b i × (store_length b ≤ n) × (verdict ts ≡ Ok tt)
 both_passed b n i ts e =
     let p = pass_both (fit_book b ∷ roomy b n ∷ line_number i ∷ []) ts e in
     let o = on_both b n i p.0 in
@@ -53,12 +52,12 @@ both_passed b n i ts e =
 
 -- the same of a call's whole list, once the code has worked out its verdict
 module _ {b : Book} {i : ℕ} {ts whole : List Test} {v : Verdict} where
-  pub asked_line : whole ≡ (fit_book b ∷ line_number i ∷ ts) → v ≡ verdict whole → v ≡ Pass → OnLine b i × (verdict ts ≡ Pass)
+  pub asked_line : whole ≡ (fit_book b ∷ line_number i ∷ ts) → v ≡ verdict whole → v ≡ Ok tt → OnLine b i × (verdict ts ≡ Ok tt)
   asked_line parts e p = line_passed b i ts (sym (ap verdict parts) ∙ sym e ∙ p)
 
-  pub asked_both : (n : ℕ) → whole ≡ (fit_book b ∷ roomy b n ∷ line_number i ∷ ts) → v ≡ verdict whole → v ≡ Pass → OnLine b i × (store_length b ≤ n) × (verdict ts ≡ Pass)
+  pub asked_both : (n : ℕ) → whole ≡ (fit_book b ∷ roomy b n ∷ line_number i ∷ ts) → v ≡ verdict whole → v ≡ Ok tt → OnLine b i × (store_length b ≤ n) × (verdict ts ≡ Ok tt)
   asked_both n parts e p = both_passed b n i ts (sym (ap verdict parts) ∙ sym e ∙ p)
 
 -- and of what a mode call asks before its own tests
-pub asked_open : (b : Book) (i : ℕ) {v : Verdict} → v ≡ verdict (fit_book b ∷ line_number i ∷ must_be_open (line_of b i) ∷ []) → v ≡ Pass → OnLine b i
+pub asked_open : (b : Book) (i : ℕ) {v : Verdict} → v ≡ verdict (fit_book b ∷ line_number i ∷ must_be_open (line_of b i) ∷ []) → v ≡ Ok tt → OnLine b i
 asked_open b i e p = (line_passed b i (must_be_open (line_of b i) ∷ []) (sym e ∙ p)).0

@@ -1,7 +1,7 @@
 -- RULES section 14, the paragraph 'Order' of document 01, whole: for each call one list of its refusals in their order, each with the test that keeps it away. Nothing
 -- else says in which order a call asks. Of the store and of the output only the length counts.
 -- Assumes nothing.
-use Rattle.std.specs.Prelude.{ℕ, Bool, true, false, ◌&&◌, not, List, [], ◌∷◌, ltb, leb, eqb, length}
+use Rattle.std.specs.Prelude.{ℕ, Bool, true, false, ◌&&◌, not, List, [], ◌∷◌, ltb, leb, eqb, length, Option, Some, None, is_some}
 use Rattle.ground.specs.Refusal.{Test, must}
 use Rattle.ground.specs.declared.Refusal.TheVariants.{SHORT, FORM, TYPE, NOLINE, MODE, CHANNEL, SIZE, FULL, SPENT, NOTHING, ROOM, TAKEN, RANGE, CLOCK, RECOVERY, BOOK}
 use Rattle.slip.specs.Slip.{slip_length}
@@ -24,8 +24,6 @@ use Rattle.writing.specs.Send.{ranked, is_held, held_in, sent_length}
 use Rattle.book.specs.Book.{line_of, book_fits, owner_of, taken}
 use Rattle.book.specs.Parts.{store_length}
 use Rattle.book.specs.declared.Book.{Book}
-use Rattle.book.specs.declared.Owner.{Owner}
-use Rattle.book.specs.declared.Owner.TheVariants.{At, Nobody}
 use Rattle.calls.specs.Call.{Call}
 use Rattle.calls.specs.Call as call
 
@@ -154,16 +152,12 @@ report_order b i channel =
     ∷ []
 
 -- the open line that has the packet's identifier: "Taking the line from the caller and not from the packet's identifier" is an error
-abbrev pub packet_line : Book → List ℕ → Owner
+abbrev pub packet_line : Book → List ℕ → Option ℕ
 packet_line b s = owner_of b (head_at s).identifier
 
-abbrev pub is_somebody : Owner → Bool
-is_somebody (At i) = true
-is_somebody Nobody = false
-
-abbrev pub owner_line : Owner → ℕ
-owner_line (At i) = i
-owner_line Nobody = 0
+abbrev pub owner_line : Option ℕ → ℕ
+owner_line (Some i) = i
+owner_line None = 0
 
 -- "Arrival: SHORT for 6 octets, FORM, NOLINE, TYPE, MODE, SHORT for the list, CHANNEL, SIZE."; s is the packet's octets (RULES 14.2)
 unfoldable pub arrive_order : Book → ℕ → List ℕ → List Test
@@ -173,7 +167,7 @@ arrive_order b store s =
     ∷ must (leb (store_length b) store) ROOM
     ∷ must (fixed_there s) SHORT
     ∷ must (form_plain s) FORM
-    ∷ must (is_somebody (packet_line b s)) NOLINE
+    ∷ must (is_some (packet_line b s)) NOLINE
     ∷ must (eqb (head_at s).kind l.kind) TYPE
     ∷ must (in_relay l) MODE
     ∷ must (list_there s) SHORT

@@ -1,6 +1,6 @@
 -- What a call does: its answer, and what it leaves in the book, in the store and in the output.
 -- Assumes nothing.
-use Rattle.std.specs.Prelude.{ℕ, ◌%◌, Bool, true, false, List, [], ◌∷◌, ◌++◌, length, drop}
+use Rattle.std.specs.Prelude.{ℕ, ◌%◌, Bool, true, false, List, [], ◌∷◌, ◌++◌, length, drop, Result, Ok, Err}
 use Rattle.ground.specs.Refusal.{verdict, settle}
 use Rattle.ground.specs.Answer.{Answer, accepted, refused}
 use Rattle.slip.specs.Slip.{slip_octets}
@@ -24,6 +24,8 @@ use Rattle.book.specs.Book.{line_of, with_line}
 use Rattle.book.specs.Parts.{part_start}
 use Rattle.book.specs.Closing.{closed_at}
 use Rattle.book.specs.declared.Book.{Book}
+use Rattle.ground.specs.declared.Refusal.{Refusal}
+use Rattle.calls.specs.declared.After.{After}
 use Rattle.calls.specs.Call.{Call}
 use Rattle.calls.specs.Call as call
 use Rattle.calls.specs.Order.{order, line_for}
@@ -36,6 +38,20 @@ pub record CallResult : Type 0 where
 
 abbrev pub result_with : Answer → Book → List ℕ → List ℕ → CallResult
 result_with a b store out = record { answer = a; book = b; store = store; out = out }
+
+-- what an accepted call answers, or its refusal
+abbrev pub answer_in : {A : Type 0} → Result (After A) Refusal → Result A Refusal
+answer_in (Ok a) = Ok a.answer
+answer_in (Err r) = Err r
+
+-- the book that a call leaves, and b where it was refused
+abbrev pub book_in : {A : Type 0} → Book → Result (After A) Refusal → Book
+book_in b (Ok a) = a.book
+book_in b (Err r) = b
+
+-- what a call on book b did, by what it gave back, and by what it left in what was lent
+abbrev pub does : {A : Type 0} → (Result A Refusal → Answer) → Book → Result (After A) Refusal → List ℕ → List ℕ → CallResult
+does says b r store out = result_with (says (answer_in r)) (book_in b r) store out
 
 -- What an accepted call does to its line: the values that it answers, the line, whether its identifier goes to rest, and what is lent.
 pub record Effect : Type 0 where

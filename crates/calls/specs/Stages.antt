@@ -1,7 +1,7 @@
 -- How the stages that the crates below prove make up the lists of `Order`: what every call asks first, and after it what its line and
 -- its channel ask. proofs/OrderStages.antt proves of each call that its stages put together are its list.
 -- Assumes nothing.
-use Rattle.std.specs.Prelude.{ℕ, not, List, [], ◌∷◌, ◌++◌, leb, length}
+use Rattle.std.specs.Prelude.{ℕ, not, List, [], ◌∷◌, ◌++◌, leb, length, is_some}
 use Rattle.ground.specs.Refusal.{Test, must}
 use Rattle.ground.specs.declared.Refusal.TheVariants.{NOLINE, ROOM, TAKEN, RANGE, BOOK}
 use Rattle.slip.specs.Slip.{slip_length}
@@ -22,7 +22,7 @@ use Rattle.book.specs.Parts.{store_length}
 use Rattle.book.specs.declared.Book.{Book}
 use Rattle.calls.specs.Call.{Call}
 use Rattle.calls.specs.Call as call
-use Rattle.calls.specs.Order.{packet_line, is_somebody, owner_line}
+use Rattle.calls.specs.Order.{packet_line, owner_line}
 
 -- the first tests of the calls
 abbrev pub fit_book : Book → Test
@@ -51,7 +51,7 @@ mode_tests l a = must_be_open l ∷ act_tests l.modes a
 
 -- an arrival: the packet's address, and then the line that it is for
 unfoldable pub address_tests : Book → List ℕ → List Test
-address_tests b s = head_tests s ++ (must (is_somebody (packet_line b s)) NOLINE ∷ [])
+address_tests b s = head_tests s ++ (must (is_some (packet_line b s)) NOLINE ∷ [])
 
 unfoldable pub arrival_tests : Book → List ℕ → List Test
 arrival_tests b s = address_tests b s ++ arrive_tests (line_of b (owner_line (packet_line b s))) s

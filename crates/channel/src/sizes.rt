@@ -10,7 +10,7 @@ use places::Places;
 pub fn size_fits(size: u16, largest: u16) -> bool
     ensures { result ≡ message_fits largest size }
 {
-    (0 < size) & (size <= largest)
+    (1..=largest).contains(&size)
 }
 
 // Has each message of the set, the oldest of which lies at place `origin`, 1 to `largest` octets? Only the places of its offsets are looked
@@ -28,11 +28,8 @@ pub fn sizes_fit(
     let mut rest = set;
     let mut i = 0;
     while !rest.empty() {
-        if rest.has(0) {
-            let at = place(origin, i, window) as usize;
-            if !size_fits(sizes[at], largest) {
-                return false;
-            }
+        if rest.has(0) && !size_fits(sizes[place(origin, i, window) as usize], largest) {
+            return false;
         }
         rest = rest.dropped(1);
         i += 1;

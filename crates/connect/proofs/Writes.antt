@@ -12,12 +12,10 @@ use lib.Pow.{shl_exact}
 use lib.Bits.{bit_or}
 use borrow.Author.Tests.{ltb-true, leb-true, eqb-true}
 use mir.Val.{bool_byte}
+use Rattle.std.specs.Prelude.{Ok}
 use Rattle.ground.specs.Pick.{pick, bit}
-use Rattle.ground.specs.Refusal.{verdict}
+use Rattle.ground.specs.Refusal.{Verdict, verdict}
 use Rattle.ground.specs.Answer.{Writes}
-use Rattle.ground.specs.declared.Verdict.{Verdict}
-use Rattle.ground.specs.declared.Verdict.TheVariants.{Pass}
-use Rattle.ground.specs.declared.WriteAnswer.TheVariants.{Wrote}
 use Rattle.ground.proofs.Picks.{each, both_true, pick_by}
 use Rattle.ground.proofs.Verdicts.{Holds, passed}
 use Rattle.field.specs.Layout.{Field, of, word_octets, join, packed, InWidth}
@@ -212,12 +210,12 @@ unfolding size_of
 size_least c = pick_by (λ (n : ℕ). 8 ≤ n) (eqb c 1) (λ _. lit≤ tt) (λ _. pick_by (λ (n : ℕ). 8 ≤ n) (eqb c 2) (λ _. lit≤ tt) (λ _. lit≤ tt))
 
 -- all tests before writing pass: then the numbers fit, and what is stored is the body
-module _ (c : Connect) (l : List ℕ) {v : Verdict} (e : v ≡ verdict (write_tests c (length l))) (k : v ≡ Pass) where
+module _ (c : Connect) (l : List ℕ) {v : Verdict} (e : v ≡ verdict (write_tests c (length l))) (k : v ≡ Ok tt) where
   tests : Holds (write_tests c (length l))
   tests = passed (write_tests c (length l)) (sym e ∙ k)
 
   pub write_fits : (numbers_fit c ≡ true) × (sizes_fit c ≡ true)
   write_fits = both_true (numbers_fit c) (sizes_fit c) tests.1.0
 
-  pub write_done : {l₁ : List ℕ} {n : ℕ} → n ≡ size_of c.compression → l₁ ≡ sets l 0 (connect_octets c) → Writes (write_tests c (length l)) (connect_octets c) l l₁ (Wrote n)
+  pub write_done : {l₁ : List ℕ} {n : ℕ} → n ≡ size_of c.compression → l₁ ≡ sets l 0 (connect_octets c) → Writes (write_tests c (length l)) (connect_octets c) l l₁ (Ok n)
   write_done p q = stored_writes (write_tests c (length l)) (connect_octets c) l e k (leb-true _ _ tests.1.1.0) (p ∙ sym (body_length c)) q

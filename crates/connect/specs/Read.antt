@@ -1,16 +1,15 @@
 -- What the octets of a CONNECT body say, field by field of Table 25 (RULES 11.1), and when they are refused.
 -- Assumes nothing.
-use Rattle.std.specs.Prelude.{ℕ, ◌+◌, ◌*◌, Bool, List, [], ◌∷◌, length, ltb, leb, eqb}
-use Rattle.ground.specs.Refusal.{Test, must, verdict, settle}
-use Rattle.ground.specs.Answer.{Answer, accepted, refused}
+use Rattle.std.specs.Prelude.{ℕ, ◌+◌, ◌*◌, Bool, List, [], ◌∷◌, length, ltb, leb, eqb, Result, Ok, Err}
+use Rattle.ground.specs.Refusal.{Test, must}
+use Rattle.ground.specs.Answer.{Answer, accepted, refused, answered}
 use Rattle.ground.specs.declared.Refusal.TheVariants.{LENGTH, RESERVED, RANGE}
 use Rattle.field.specs.Bits.{bits_at}
 use Rattle.connect.specs.Spans.{size_of, sizes_fit}
 use Rattle.ground.specs.Pick.{bit}
 use Rattle.connect.specs.declared.Way.{Way}
 use Rattle.connect.specs.declared.Connect.{Connect}
-use Rattle.connect.specs.declared.Reading.{Reading}
-use Rattle.connect.specs.declared.Reading.TheVariants.{Says, Refused}
+use Rattle.ground.specs.declared.Refusal.{Refusal}
 
 -- bits 8 to 11 (RULES 11.1)
 abbrev pub compression_at : List ℕ → ℕ
@@ -51,14 +50,14 @@ read_tests s =
     ∷ []
 
 -- what each case of a reading stands for: the eighteen values in their order (RULES 11.11), or the refusal's number (RULES 17.3)
-abbrev pub answer_of : Reading → Answer
-answer_of (Says c) =
+abbrev pub answer_of : Result Connect Refusal → Answer
+answer_of (Ok c) =
     accepted
     (c.modulation ∷ c.direction ∷ c.compression ∷ c.correction ∷ c.transmit.rate ∷ c.receive.rate
     ∷ bit c.dlci ∷ bit c.octet ∷ bit c.rawbit ∷ bit c.frame ∷ bit c.charstat ∷ bit c.chardyn
     ∷ c.transmit.dictionary ∷ c.receive.dictionary ∷ c.transmit.string ∷ c.receive.string
     ∷ c.transmit.history ∷ c.receive.history ∷ [])
-answer_of (Refused r) = refused r
+answer_of (Err r) = refused r
 
-abbrev pub connect_read : List ℕ → Reading
-connect_read s = settle (verdict (read_tests s)) Refused (Says (connect_at s))
+abbrev pub connect_read : List ℕ → Result Connect Refusal
+connect_read s = answered (read_tests s) (connect_at s)

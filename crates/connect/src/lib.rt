@@ -11,7 +11,7 @@ ghost use Rattle.connect.specs.Write.{flag_fields, write_tests, connect_octets};
 ghost use Rattle.field.specs.Layout.{join};
 ghost use Rattle.std.proofs.lemmas.List.Edits.{sets};
 
-use ground::{Refusal, Verdict, WriteAnswer};
+use ground::Refusal;
 
 // What is told of one direction of the link. What has no place in the body is 0.
 #[derive(Clone, Copy)]
@@ -45,13 +45,6 @@ pub struct Connect {
     pub frame: bool,
     pub charstat: bool,
     pub chardyn: bool,
-}
-
-// What a body says, or why it says nothing.
-#[derive(Clone, Copy)]
-pub enum Reading {
-    Says(Connect),
-    Refused(Refusal),
 }
 
 fn compression_at(s: &[u8]) -> u8
@@ -101,87 +94,74 @@ fn connect_at(s: &[u8]) -> Connect
 }
 
 // How many octets a body has.
+#[tactic(auto, unfolding(crate::specs::Spans::size_of))]
 fn size_of(compression: u8) -> usize
     ensures { result ≡ size_of compression }
 {
-    if compression == 1 {
-        return 14;
+    match compression {
+        1 => 14,
+        2 => 18,
+        _ => 8,
     }
-    if compression == 2 {
-        return 18;
-    }
-    8
 }
 
 fn is_plain(w: Way) -> bool
     ensures { result ≡ nothing w }
 {
-    (w.dictionary == 0) & (w.string == 0) & (w.history == 0)
+    w.dictionary == 0 && w.string == 0 && w.history == 0
 }
 
 fn is_v42bis(w: Way) -> bool
     ensures { result ≡ bis_way w }
 {
-    (512 <= w.dictionary)
-        & (w.dictionary <= 65535)
-        & (6 <= w.string)
-        & (w.string <= 250)
-        & (w.history == 0)
+    (512..=65535).contains(&w.dictionary) && (6..=250).contains(&w.string) && w.history == 0
 }
 
 fn is_v44(w: Way) -> bool
     ensures { result ≡ rich_way w }
 {
-    (256 <= w.dictionary)
-        & (w.dictionary <= 65535)
-        & (32 <= w.string)
-        & (w.string <= 255)
-        & (512 <= w.history)
-        & (w.history <= 65535)
+    (256..=65535).contains(&w.dictionary)
+        && (32..=255).contains(&w.string)
+        && (512..=65535).contains(&w.history)
 }
 
 // Are dictionaries, strings and histories within the spans of the compression?
+#[tactic(auto, unfolding(crate::specs::Spans::sizes_fit))]
 fn sizes_fit(c: Connect) -> bool
     ensures { result ≡ sizes_fit c }
 {
-    let transmit = c.transmit;
-    let receive = c.receive;
-    if c.compression == 1 {
-        return is_v42bis(transmit) & is_plain(receive);
+    match c.compression {
+        1 => is_v42bis(c.transmit) && is_plain(c.receive),
+        2 => is_v44(c.transmit) && is_v44(c.receive),
+        _ => is_plain(c.transmit) && is_plain(c.receive),
     }
-    if c.compression == 2 {
-        return is_v44(transmit) & is_v44(receive);
-    }
-    is_plain(transmit) & is_plain(receive)
 }
 
-fn read_verdict(s: &[u8]) -> Verdict
+fn read_verdict(s: &[u8]) -> Result<(), Refusal>
     ensures { result ≡ verdict (read_tests s.now) }
 {
     if s.len() < 8 {
-        return Verdict::Refuse(Refusal::LENGTH);
+        return Err(Refusal::LENGTH);
     }
     let compression = compression_at(s);
     if 4 <= compression {
-        return Verdict::Refuse(Refusal::RESERVED);
+        return Err(Refusal::RESERVED);
     }
     if s.len() != size_of(compression) {
-        return Verdict::Refuse(Refusal::LENGTH);
+        return Err(Refusal::LENGTH);
     }
-    if sizes_fit(connect_at(s)) {
-        return Verdict::Pass;
+    if !sizes_fit(connect_at(s)) {
+        return Err(Refusal::RANGE);
     }
-    Verdict::Refuse(Refusal::RANGE)
+    Ok(())
 }
 
 // A body read: LENGTH below 8, RESERVED, LENGTH, RANGE.
-pub fn read(s: &[u8]) -> Reading
-    ensures { Gives answer_of (read_tests s.now) Reading.Refused (Reading.Says (connect_at s.now)) result }
+pub fn read(s: &[u8]) -> Result<Connect, Refusal>
+    ensures { Gives answer_of (read_tests s.now) (connect_at s.now) result }
 {
-    match read_verdict(s) {
-        Verdict::Pass => Reading::Says(connect_at(s)),
-        Verdict::Refuse(r) => Reading::Refused(r),
-    }
+    read_verdict(s)?;
+    Ok(connect_at(s))
 }
 
 // Bits 48 to 63: six flags, and ten bits of 0.
@@ -219,44 +199,37 @@ fn put(out: &mut [u8], c: Connect) -> usize
         c.receive.history,
     ];
     let n = size_of(c.compression);
-    let half = n >> 1;
-    field::put_words(out, &words[..half]);
+    field::put_words(out, &words[..n / 2]);
     n
 }
 
+#[tactic(auto, unfolding(crate::specs::Spans::numbers_fit))]
 fn numbers_fit(c: Connect) -> bool
     ensures { result ≡ numbers_fit c }
 {
-    (c.modulation < 31)
-        & (c.direction < 4)
-        & (c.compression < 4)
-        & (c.correction < 3)
-        & (c.transmit.rate <= 65535)
-        & (c.receive.rate <= 65535)
+    c.modulation < 31 && c.direction < 4 && c.compression < 4 && c.correction < 3
 }
 
-fn write_verdict(c: Connect, space: usize) -> Verdict
+fn write_verdict(c: Connect, space: usize) -> Result<(), Refusal>
     ensures { result ≡ verdict (write_tests c space) }
 {
     let compression = c.compression;
-    if (4 <= compression) & (compression <= 15) {
-        return Verdict::Refuse(Refusal::RESERVED);
+    if (4..=15).contains(&compression) {
+        return Err(Refusal::RESERVED);
     }
-    if !(numbers_fit(c) & sizes_fit(c)) {
-        return Verdict::Refuse(Refusal::RANGE);
+    if !numbers_fit(c) || !sizes_fit(c) {
+        return Err(Refusal::RANGE);
     }
-    if size_of(compression) <= space {
-        return Verdict::Pass;
+    if space < size_of(compression) {
+        return Err(Refusal::ROOM);
     }
-    Verdict::Refuse(Refusal::ROOM)
+    Ok(())
 }
 
 // A body written: RESERVED, RANGE, ROOM.
-pub fn write(out: &mut [u8], c: Connect) -> WriteAnswer
+pub fn write(out: &mut [u8], c: Connect) -> Result<usize, Refusal>
     ensures { Writes (write_tests c (length out.old)) (connect_octets c) out.old out.new result }
 {
-    match write_verdict(c, out.len()) {
-        Verdict::Refuse(r) => WriteAnswer::Refused(r),
-        Verdict::Pass => WriteAnswer::Wrote(put(out, c)),
-    }
+    write_verdict(c, out.len())?;
+    Ok(put(out, c))
 }

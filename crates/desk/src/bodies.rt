@@ -5,13 +5,13 @@ use crate::parse::{BREAK, CONNECT};
 use breaks::Break;
 use connect::{Connect, Way};
 use slip::Slip;
-use words::{Arguments, Numbers};
+use words::{Arguments, Fault};
 
 // The 18 values of a CONNECT.
-fn of_connect(c: Connect) -> Numbers {
+pub fn of_connect(c: Connect) -> [u64; 18] {
     let transmit = c.transmit;
     let receive = c.receive;
-    let values = [
+    [
         c.modulation as u64,
         c.direction as u64,
         c.compression as u64,
@@ -30,8 +30,7 @@ fn of_connect(c: Connect) -> Numbers {
         receive.string as u64,
         transmit.history as u64,
         receive.history as u64,
-    ];
-    Numbers { values, count: 18 }
+    ]
 }
 
 // The CONNECT of 18 values.
@@ -65,11 +64,10 @@ fn connect_of(a: Arguments) -> Connect {
 }
 
 // `connect read OCTETS`
-fn read_connect(body: &[u8], out: &mut [u8]) -> Reply {
-    let reading = connect::read(body);
-    match reading {
-        connect::Reading::Refused(r) => Reply::Refused(r),
-        connect::Reading::Says(c) => Reply::Put(words::put_numbers(out, of_connect(c))),
+fn read_connect(body: &[u8]) -> Reply {
+    match connect::read(body) {
+        Ok(c) => Reply::Connect(c),
+        Err(refusal) => Reply::Refused(refusal),
     }
 }
 
@@ -80,20 +78,15 @@ fn write_connect(a: Arguments, octets: &mut [u8]) -> Reply {
 }
 
 // The three values of a BREAK.
-fn of_break(b: Break) -> Numbers {
-    let mut values = [0u64; 18];
-    values[0] = b.source as u64;
-    values[1] = b.kind as u64;
-    values[2] = b.lasts as u64;
-    Numbers { values, count: 3 }
+pub fn of_break(b: Break) -> [u64; 3] {
+    [b.source as u64, b.kind as u64, b.lasts as u64]
 }
 
 // `break read OCTETS`
-fn read_break(body: &[u8], out: &mut [u8]) -> Reply {
-    let reading = breaks::read(body);
-    match reading {
-        breaks::Reading::Refused(r) => Reply::Refused(r),
-        breaks::Reading::Says(b) => Reply::Put(words::put_numbers(out, of_break(b))),
+fn read_break(body: &[u8]) -> Reply {
+    match breaks::read(body) {
+        Ok(b) => Reply::Break(b),
+        Err(refusal) => Reply::Refused(refusal),
     }
 }
 
@@ -109,31 +102,30 @@ fn write_break(a: Arguments, octets: &mut [u8]) -> Reply {
 }
 
 // The five values of a slip.
-fn of_slip(s: Slip) -> Numbers {
-    let mut values = [0u64; 18];
-    values[0] = s.identifier as u64;
-    values[1] = s.kind as u64;
-    values[2] = s.count1 as u64;
-    values[3] = s.count2 as u64;
-    values[4] = s.reason as u64;
-    Numbers { values, count: 5 }
+pub fn of_slip(s: Slip) -> [u64; 5] {
+    [
+        s.identifier as u64,
+        s.kind as u64,
+        s.count1 as u64,
+        s.count2 as u64,
+        s.reason as u64,
+    ]
 }
 
 // `slip read OCTETS`
-fn read_slip(body: &[u8], out: &mut [u8]) -> Reply {
-    let reading = slip::read(body);
-    match reading {
-        slip::Reading::Refused(r) => Reply::Refused(r),
-        slip::Reading::Says(s) => Reply::Put(words::put_numbers(out, of_slip(s))),
+fn read_slip(body: &[u8]) -> Reply {
+    match slip::read(body) {
+        Ok(s) => Reply::Slip(s),
+        Err(refusal) => Reply::Refused(refusal),
     }
 }
 
 // Reads octets as a body or a slip.
-fn read(place: u8, octets: &[u8], out: &mut [u8]) -> Reply {
+fn read(place: u8, octets: &[u8]) -> Reply {
     match place {
-        CONNECT => read_connect(octets, out),
-        BREAK => read_break(octets, out),
-        _ => read_slip(octets, out),
+        CONNECT => read_connect(octets),
+        BREAK => read_break(octets),
+        _ => read_slip(octets),
     }
 }
 
@@ -146,13 +138,13 @@ fn write(place: u8, a: Arguments, octets: &mut [u8]) -> Reply {
 }
 
 // Makes a call whose words are good, on the body that a line names.
-pub fn make(place: u8, a: Arguments, octets: &mut [u8], out: &mut [u8]) -> Reply {
+pub fn make(place: u8, a: Arguments, octets: &mut [u8]) -> Reply {
     let size = a.size;
     if a.call == 1 {
         return write(place, a, octets);
     }
     if octets.len() < size {
-        return Reply::NoCall(answer::TOO_LONG);
+        return Reply::NoCall(Fault::TooLong);
     }
-    read(place, &octets[0..size], out)
+    read(place, &octets[0..size])
 }

@@ -13,105 +13,107 @@ fn open(seat: Seat, a: Arguments) -> Seat {
         vbd: a.flag(3),
         relay: a.flag(4),
     };
-    let opened = gateway::open(seat.book, a.octet(0), settings, a.long(5));
-    let answer = opened.answer;
-    let book = opened.book;
-    seat.with(book, answer::of_opening(answer))
+    match gateway::open(seat.book, a.octet(0), settings, a.long(5)) {
+        Ok(after) => seat.with(after.book, Reply::Done),
+        Err(refusal) => seat.refused(refusal),
+    }
 }
 
 // `close LINE [SPACE]`
 fn close(seat: Seat, a: Arguments, octets: &mut [u8]) -> Seat {
     let space = a.space(1, octets.len());
-    let gave = gateway::close(seat.book, a.octet(0), &mut octets[0..space]);
-    let answer = gave.answer;
-    let book = gave.book;
-    seat.with(book, answer::of_writing(answer))
+    match gateway::close(seat.book, a.octet(0), &mut octets[0..space]) {
+        Ok(after) => seat.with(after.book, Reply::Octets(after.answer)),
+        Err(refusal) => seat.refused(refusal),
+    }
 }
 
 // `hear LINE MODE TIME`
 fn hear(seat: Seat, a: Arguments) -> Seat {
-    let hears = gateway::hear(seat.book, a.octet(0), a.octet(1), a.long(2));
-    let answer = hears.answer;
-    let book = hears.book;
-    seat.with(book, answer::of_indication(answer))
+    match gateway::hear(seat.book, a.octet(0), a.octet(1), a.long(2)) {
+        Ok(after) => seat.with(after.book, Reply::Heard(after.answer)),
+        Err(refusal) => seat.refused(refusal),
+    }
 }
 
 // `ask LINE MODE TIME`
 fn ask(seat: Seat, a: Arguments) -> Seat {
-    let asks = gateway::ask(seat.book, a.octet(0), a.octet(1), a.long(2));
-    let answer = asks.answer;
-    let book = asks.book;
-    seat.with(book, answer::of_request(answer))
+    match gateway::ask(seat.book, a.octet(0), a.octet(1), a.long(2)) {
+        Ok(after) => seat.with(after.book, Reply::Mode(after.answer)),
+        Err(refusal) => seat.refused(refusal),
+    }
 }
 
 // `tick LINE TIME`
 fn tick(seat: Seat, a: Arguments) -> Seat {
-    let ticks = gateway::tick(seat.book, a.octet(0), a.long(1));
-    let answer = ticks.answer;
-    let book = ticks.book;
-    seat.with(book, answer::of_tick(answer))
+    match gateway::tick(seat.book, a.octet(0), a.long(1)) {
+        Ok(after) => seat.with(after.book, answer::of_tick(after.answer)),
+        Err(refusal) => seat.refused(refusal),
+    }
 }
 
 // `held LINE CHANNEL`
 fn held(seat: Seat, a: Arguments) -> Seat {
-    let report = gateway::held(seat.book, a.octet(0), a.octet(1));
-    seat.with(seat.book, answer::of_report(report))
+    match gateway::held(seat.book, a.octet(0), a.octet(1)) {
+        Ok(count) => seat.with(seat.book, Reply::Holds(count)),
+        Err(refusal) => seat.refused(refusal),
+    }
 }
 
 // `empty LINE CHANNEL [SPACE]`
 fn empty(seat: Seat, a: Arguments, octets: &mut [u8]) -> Seat {
     let space = a.space(2, octets.len());
-    let gave = gateway::empty(seat.book, a.octet(0), a.octet(1), &mut octets[0..space]);
-    let answer = gave.answer;
-    let book = gave.book;
-    seat.with(book, answer::of_writing(answer))
+    match gateway::empty(seat.book, a.octet(0), a.octet(1), &mut octets[0..space]) {
+        Ok(after) => seat.with(after.book, Reply::Octets(after.answer)),
+        Err(refusal) => seat.refused(refusal),
+    }
 }
 
 // `take LINE CHANNEL OCTETS`
 fn take(seat: Seat, a: Arguments, store: &mut [u8], message: &[u8]) -> Seat {
-    let took = gateway::take(seat.book, store, a.octet(0), a.octet(1), message);
-    let answer = took.answer;
-    let book = took.book;
-    seat.with(book, answer::of_taking(answer))
+    match gateway::take(seat.book, store, a.octet(0), a.octet(1), message) {
+        Ok(after) => seat.with(after.book, Reply::Done),
+        Err(refusal) => seat.refused(refusal),
+    }
 }
 
 // `send LINE CHANNEL RANK [SPACE]`
 fn send(seat: Seat, a: Arguments, store: &[u8], octets: &mut [u8]) -> Seat {
     let space = a.space(3, octets.len());
-    let gave = gateway::send(
+    match gateway::send(
         seat.book,
         store,
         a.octet(0),
         a.octet(1),
         a.octet(2),
         &mut octets[0..space],
-    );
-    let answer = gave.answer;
-    let book = gave.book;
-    seat.with(book, answer::of_writing(answer))
+    ) {
+        Ok(after) => seat.with(after.book, Reply::Octets(after.answer)),
+        Err(refusal) => seat.refused(refusal),
+    }
 }
 
 // `arrive OCTETS`
 fn arrive(seat: Seat, store: &mut [u8], packet: &[u8]) -> Seat {
-    let came = gateway::arrive(seat.book, store, packet);
-    let answer = came.answer;
-    let book = came.book;
-    seat.with(book, answer::of_arrival(answer))
+    match gateway::arrive(seat.book, store, packet) {
+        Ok(after) => seat.with(after.book, Reply::Done),
+        Err(refusal) => seat.refused(refusal),
+    }
 }
 
 // `out LINE CHANNEL [SPACE]`
 fn hand_out(seat: Seat, a: Arguments, store: &[u8], octets: &mut [u8]) -> Seat {
     let space = a.space(2, octets.len());
-    let gave = gateway::hand_out(
+    match gateway::hand_out(
         seat.book,
         store,
         a.octet(0),
         a.octet(1),
         &mut octets[0..space],
-    );
-    let answer = gave.answer;
-    let book = gave.book;
-    seat.with(book, answer::of_writing(answer))
+    ) {
+        Ok(after) => seat.with(after.book, Reply::Octets(after.answer)),
+        Err(refusal) => seat.refused(refusal),
+    }
 }
 
 // The calls that no store is lent to.
@@ -143,18 +145,9 @@ fn with_store(seat: Seat, a: Arguments, store: &mut [u8], octets: &mut [u8]) -> 
     }
 }
 
-// Zeros a store.
-fn clear(store: &mut [u8]) {
-    let mut i = 0;
-    while i < store.len() {
-        store[i] = 0;
-        i += 1;
-    }
-}
-
-// `fresh`
+// `fresh`: the store is zeros too.
 fn fresh(store: &mut [u8]) -> Seat {
-    clear(store);
+    store.fill(0);
     Seat::fresh()
 }
 
@@ -162,7 +155,7 @@ fn fresh(store: &mut [u8]) -> Seat {
 fn lend(seat: Seat, a: Arguments) -> Seat {
     Seat {
         lent: a.long(0) as usize,
-        reply: Reply::Text(answer::OK),
+        reply: Reply::Done,
         ..seat
     }
 }
@@ -170,8 +163,8 @@ fn lend(seat: Seat, a: Arguments) -> Seat {
 // Makes a call whose words are good.
 pub fn make(seat: Seat, request: Request, store: &mut [u8], octets: &mut [u8]) -> Seat {
     let a = request.a;
-    if request.spoils {
-        return spoil::spoil(seat, request.line, a, store, octets);
+    if let Some(line) = request.spoils {
+        return spoil::spoil(seat, line, a, store, octets);
     }
     let lent = seat.lent;
     if store.len() < lent {

@@ -7,10 +7,12 @@ ghost use Rattle.std.specs.Prelude.{◌<◌, ◌≤◌};
 
 use answer::Reply;
 use book::Book;
+use ground::Refusal;
 use parse::Request;
 use script::Script;
 use std::io;
 use std::io::Input;
+use words::Fault;
 
 mod answer; // answer.rt: the words of an answer
 mod bodies; // bodies.rt: CONNECT, BREAK and slips
@@ -46,7 +48,7 @@ impl Seat {
         Seat {
             book,
             lent: 42240,
-            reply: Reply::Text(answer::OK),
+            reply: Reply::Done,
         }
     }
 
@@ -59,10 +61,18 @@ impl Seat {
         }
     }
 
-    // After a line that is no call.
-    pub fn no_call(self, reason: u8) -> Seat {
+    // After a call that was refused: the book is as it was.
+    pub fn refused(self, refusal: Refusal) -> Seat {
         Seat {
-            reply: Reply::NoCall(reason),
+            reply: Reply::Refused(refusal),
+            ..self
+        }
+    }
+
+    // After a line that is no call.
+    pub fn no_call(self, fault: Fault) -> Seat {
+        Seat {
+            reply: Reply::NoCall(fault),
             ..self
         }
     }
@@ -76,7 +86,7 @@ impl Desk {
             books: [book, book],
             lent: [42240, 42240],
             script,
-            reply: Reply::Text(answer::OK),
+            reply: Reply::Done,
         }
     }
 
@@ -88,7 +98,7 @@ impl Desk {
         Seat {
             book,
             lent: self.lent[which],
-            reply: Reply::Text(answer::OK),
+            reply: Reply::Done,
         }
     }
 
@@ -137,22 +147,20 @@ fn at_gateway(desk: Desk, request: Request, stores: &mut [u8], octets: &mut [u8]
     desk.with(which, seat)
 }
 
-// Makes the call that a line asks for.
-fn make(
-    desk: Desk,
-    request: Request,
-    stores: &mut [u8],
-    octets: &mut [u8],
-    out: &mut [u8],
-) -> Desk {
-    let a = request.a;
-    if a.fault != 0 {
-        return desk.answered(Reply::NoCall(a.fault));
-    }
+// Makes a call.
+fn make(desk: Desk, request: Request, stores: &mut [u8], octets: &mut [u8]) -> Desk {
     if request.place < parse::CONNECT {
         return at_gateway(desk, request, stores, octets);
     }
-    desk.answered(bodies::make(request.place, a, octets, out))
+    desk.answered(bodies::make(request.place, request.a, octets))
+}
+
+// Makes the call that a line asks for, if it asks for one.
+fn heed(desk: Desk, line: &[u8], stores: &mut [u8], octets: &mut [u8]) -> Desk {
+    match parse::read(desk.script, line, octets) {
+        Ok(request) => make(desk, request, stores, octets),
+        Err(fault) => desk.answered(Reply::NoCall(fault)),
+    }
 }
 
 // A line of the script is answered, once it has ended and unless it is blank or a comment.
@@ -162,16 +170,14 @@ fn serve(
     line: &[u8],
     stores: &mut [u8],
     octets: &mut [u8],
-    out: &mut [u8],
 ) -> io::Result<Desk> {
     let script = desk.script;
     if !script.answered() {
         return Ok(desk);
     }
-    let request = parse::read(script, line, octets);
-    let next = make(desk, request, stores, octets, out);
+    let next = heed(desk, line, stores, octets);
     let reply = next.reply;
-    answer::say(rt, reply, script.number, octets, out)?;
+    answer::say(rt, reply, script.number, octets)?;
     Ok(next)
 }
 
@@ -183,10 +189,9 @@ fn advance(
     line: &mut [u8],
     stores: &mut [u8],
     octets: &mut [u8],
-    out: &mut [u8],
 ) -> io::Result<Desk> {
     let script = desk.script.advance(rt, buffer, line)?;
-    serve(rt, Desk { script, ..desk }, line, stores, octets, out)
+    serve(rt, Desk { script, ..desk }, line, stores, octets)
 }
 
 // Reads the script to its end, and answers it line by line.
@@ -196,12 +201,11 @@ fn run(
     line: &mut [u8],
     stores: &mut [u8],
     octets: &mut [u8],
-    out: &mut [u8],
 ) -> io::Result<()> {
     let mut desk = Desk::fresh();
     let mut turns = u64::MAX;
     while 0 < turns {
-        desk = advance(rt, desk, buffer, line, stores, octets, out)?;
+        desk = advance(rt, desk, buffer, line, stores, octets)?;
         let script = desk.script;
         turns = script.turns_left(turns);
     }
@@ -213,14 +217,6 @@ fn main(rt: HostRuntime) -> io::Result<()> {
     let mut line = [0u8; 2000];
     let mut stores = [0u8; 84480];
     let mut octets = [0u8; 600];
-    let mut out = [0u8; 1300];
-    run(
-        &rt,
-        &mut buffer,
-        &mut line,
-        &mut stores,
-        &mut octets,
-        &mut out,
-    )?;
+    run(&rt, &mut buffer, &mut line, &mut stores, &mut octets)?;
     rt.write_all(b"end\n")
 }

@@ -12,15 +12,15 @@ use store::Way;
 use words::Arguments;
 
 // The first of the parts here, and those that name a message.
-pub const FIRST: u8 = 16;
+pub const FIRST: usize = 16;
 
-const DROPPED: u8 = 18;
+const DROPPED: usize = 18;
 
-const HELD: u8 = 19;
+const HELD: usize = 19;
 
-const MISSING: u8 = 21;
+const MISSING: usize = 21;
 
-const STORED: u8 = 22;
+const STORED: usize = 22;
 
 // A number less the window of a channel as often as that goes: 32 of channel 1, or else 8.
 fn less(channel: u8, n: u32) -> u32
@@ -152,7 +152,7 @@ fn kept(size: usize, most: usize) -> usize
 }
 
 // The way that the part named speaks of.
-fn way(call: u8) -> Way {
+fn way(call: usize) -> Way {
     if call <= HELD {
         return Way::Sending;
     }
@@ -173,6 +173,8 @@ pub fn put(a: Arguments, at: usize, store: &mut [u8], octets: &[u8]) {
     let call = a.call;
     if (call == HELD) | (call == STORED) {
         let size = kept(a.size, octets.len());
-        words::put(store, at, &octets[0..size]);
+        for (place, octet) in store.iter_mut().skip(at).zip(&octets[0..size]) {
+            *place = *octet;
+        }
     }
 }

@@ -2,10 +2,10 @@
 // call where the value cannot be said. It writes the whole store, whatever is lent.
 use crate::answer::Reply;
 use crate::parse::OF_BOOK;
-use crate::{Seat, answer, record, sides};
+use crate::{Seat, record, sides};
 use book::Book;
 use line::Line;
-use words::Arguments;
+use words::{Arguments, Fault};
 
 // `rested N` and `resting I ID`
 fn with_resting(book: Book, a: Arguments) -> Book {
@@ -60,8 +60,8 @@ fn slot_at(book: Book, i: u8, a: Arguments) -> usize {
 // Sets the part that is named.
 pub fn spoil(seat: Seat, i: u8, a: Arguments, store: &mut [u8], octets: &[u8]) -> Seat {
     if !sides::in_reach(oldest(seat.book, i, a), a) {
-        return seat.no_call(answer::OUT_OF_REACH);
+        return seat.no_call(Fault::OutOfReach);
     }
     sides::put(a, slot_at(seat.book, i, a), store, octets);
-    seat.with(spoilt(seat.book, i, a), Reply::Text(answer::OK))
+    seat.with(spoilt(seat.book, i, a), Reply::Done)
 }

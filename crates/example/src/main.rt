@@ -2,11 +2,12 @@
 #![tactic(auto)]
 
 use book::Book;
-use gateway::{ArriveAnswer, HeldAnswer, TakeAnswer};
-use ground::WriteAnswer;
+use ground::Refusal;
 use line::Settings;
 use mode::Modes;
+use std::alloc::{AllocError, Global};
 use std::io;
+use thiserror::Error;
 
 // How many messages are to cross.
 const MESSAGES: u8 = 12;
@@ -14,222 +15,188 @@ const MESSAGES: u8 = 12;
 // After so many rounds the program gives up.
 const ROUNDS: u8 = 100;
 
-// The two gateways, how many messages the site has taken, and how many the office has handed out.
-#[derive(Clone, Copy)]
-struct Ends {
-    site: Book,
-    office: Book,
-    taken: u8,
-    handed: u8,
+// The line that is used at either end, and its channel.
+const LINE: u8 = 0;
+
+const CHANNEL: u8 = 1;
+
+// So many octets hold every packet, and so many every message.
+const PACKET: usize = 144;
+
+const MESSAGE: usize = 132;
+
+// What ends the program before its time.
+#[derive(Debug, Drop, Error)]
+enum Failure {
+    #[error("a call is refused: {0}")]
+    Refused(#[from] Refusal),
+    #[error(transparent)]
+    Memory(#[from] AllocError),
+    #[error(transparent)]
+    Output(#[from] io::Error),
 }
 
-// Prints a number, in two digits, and what it stands for.
-fn say(rt: &impl Print, n: u8, what: &[u8]) -> io::Result<()> {
-    rt.write_all(&[b'0' + n / 10 % 10, b'0' + n % 10])?;
-    rt.write_all(what)
+// A gateway: its book, and the store that it lends to the calls. A call that is refused leaves both as they were.
+#[derive(Drop)]
+struct End {
+    book: Book,
+    store: Vec<u8>,
 }
 
-// A gateway with line 0 open and in modem relay. Both ends name the same identifier and payload type. A refused call leaves the
-// book as it was, so a refusal here would show as a refusal of every later call.
-fn ready() -> Book {
-    let settings = Settings {
-        identifier: 5,
-        kind: 98,
-        vbd: true,
-        relay: true,
-    };
-    let opened = gateway::open(gateway::fresh(), 0, settings, 0);
-    let asked = gateway::ask(opened.book, 0, Modes::MODEM, 0);
-    asked.book
-}
-
-// The text of a message.
-fn text(n: u8) -> [u8; 17] {
-    let mut text = *b"level 2: 10 cars\n";
-    text[9] = b'1' + n / 10;
-    text[10] = b'0' + n % 10;
-    text
-}
-
-// Was a message taken? A refusal is printed. What is said of an answer stands in functions without a book, which are proved faster.
-fn was_taken(rt: &impl Print, answer: TakeAnswer) -> io::Result<bool> {
-    match answer {
-        TakeAnswer::Refused(r) => {
-            say(rt, ground::number(r), b" refuses a message\n")?;
-            Ok(false)
-        }
-        TakeAnswer::Number(_) => Ok(true),
+impl End {
+    // A gateway with its line open and in modem relay. Both ends name the same identifier and payload type.
+    fn ready(alloc: Global) -> Result<End, Failure> {
+        let settings = Settings {
+            identifier: 5,
+            kind: 98,
+            vbd: true,
+            relay: true,
+        };
+        let opened = gateway::open(gateway::fresh(), LINE, settings, 0)?;
+        let asked = gateway::ask(opened.book, LINE, Modes::MODEM, 0)?;
+        Ok(End {
+            book: asked.book,
+            store: vec![in alloc; 0; Book::STORE]?,
+        })
     }
-}
 
-// The site takes the next message. One that is refused, as when its window is FULL, is offered again in the next round.
-fn take(rt: &impl Print, mut ends: Ends, a: &mut [u8; 42240]) -> io::Result<Ends> {
-    if MESSAGES <= ends.taken {
-        return Ok(ends);
-    }
-    let taken = gateway::take(ends.site, a, 0, 1, &text(ends.taken));
-    let answer = taken.answer;
-    if was_taken(rt, answer)? {
-        ends.taken += 1;
-    }
-    let site = taken.book; // a field that is a struct is bound by `let` before it is passed on
-    ends.site = site;
-    Ok(ends)
-}
-
-// How many octets were written: none where the call was refused, which is printed.
-fn written(rt: &impl Print, answer: WriteAnswer) -> io::Result<usize> {
-    match answer {
-        WriteAnswer::Refused(r) => {
-            say(rt, ground::number(r), b" refuses to write\n")?;
-            Ok(0)
-        }
-        WriteAnswer::Wrote(n) => Ok(n),
-    }
-}
-
-// Prints the refusal of a packet.
-fn tell_arrival(rt: &impl Print, answer: ArriveAnswer) -> io::Result<()> {
-    match answer {
-        ArriveAnswer::Refused(r) => say(rt, ground::number(r), b" refuses a packet\n"),
-        ArriveAnswer::At(_) => Ok(()),
-    }
-}
-
-// The n octets that were written arrive at the other end, unless the link loses them. `n` never exceeds the output; the guard spares
-// a proof of that. Of all packets every third is lost: the site's in rounds 1, 4, 7 and so on, the office's in rounds 2, 5, 8 and so on.
-fn cross(
-    rt: &impl Print,
-    to: Book,
-    store: &mut [u8; 42240],
-    packet: &[u8],
-    n: usize,
-    lost: bool,
-) -> io::Result<Book> {
-    if lost | (n == 0) {
-        return Ok(to);
-    }
-    if packet.len() < n {
-        return Ok(to);
-    }
-    let arrived = gateway::arrive(to, store, &packet[0..n]);
-    let answer = arrived.answer;
-    tell_arrival(rt, answer)?;
-    Ok(arrived.book)
-}
-
-// How many messages are held unacknowledged. A refusal is printed.
-fn count(rt: &impl Print, answer: HeldAnswer) -> io::Result<u32> {
-    match answer {
-        HeldAnswer::Refused(r) => {
-            say(rt, ground::number(r), b" refuses to count\n")?;
-            Ok(0)
-        }
-        HeldAnswer::Holds(count) => Ok(count),
-    }
-}
-
-// The site writes one of the messages that it holds unacknowledged. The rank varies from round to round, and a program with a
-// clock should vary its pauses too: a link that loses packets at a steady beat could lose the same message every time.
-fn send(
-    rt: &impl Print,
-    mut ends: Ends,
-    a: &[u8; 42240],
-    b: &mut [u8; 42240],
-    round: u8,
-) -> io::Result<Ends> {
-    let count = count(rt, gateway::held(ends.site, 0, 1))?;
-    if count == 0 {
-        return Ok(ends);
-    }
-    let rank = (round as u32 % count % 32) as u8; // no more than 32 are held
-    let mut packet = [0u8; 144];
-    let sent = gateway::send(ends.site, a, 0, 1, rank, &mut packet);
-    let answer = sent.answer;
-    let n = written(rt, answer)?;
-    let office = cross(rt, ends.office, b, &packet, n, round % 3 == 1)?;
-    let site = sent.book;
-    ends.site = site;
-    ends.office = office;
-    Ok(ends)
-}
-
-// Prints a message that was handed out, if one was.
-fn printed(rt: &impl Print, answer: WriteAnswer, out: &[u8]) -> io::Result<bool> {
-    match answer {
-        WriteAnswer::Refused(_) => Ok(false),
-        WriteAnswer::Wrote(n) => {
-            if n <= out.len() {
-                rt.write_all(&out[0..n])?;
+    // Takes a message for sending, unless the window is FULL.
+    fn take(&mut self, message: &[u8]) -> Result<bool, Refusal> {
+        match gateway::take(self.book, &mut self.store, LINE, CHANNEL, message) {
+            Ok(taken) => {
+                self.book = taken.book;
+                Ok(true)
             }
-            Ok(true)
+            Err(Refusal::FULL) => Ok(false),
+            Err(refusal) => Err(refusal),
+        }
+    }
+
+    // Writes a packet with one of the messages that are held unacknowledged, if any are. The rank varies from round to round, and
+    // a program with a clock should vary its pauses too: a link that loses packets at a steady beat could lose the same message
+    // every time.
+    fn send(&mut self, alloc: Global, round: u8) -> Result<Option<Vec<u8>>, Failure> {
+        let held = gateway::held(self.book, LINE, CHANNEL)?;
+        if held == 0 {
+            return Ok(None);
+        }
+        let rank = (u32::from(round) % held) as u8;
+        let mut packet = vec![in alloc; 0; PACKET]?;
+        let sent = gateway::send(self.book, &self.store, LINE, CHANNEL, rank, &mut packet)?;
+        self.book = sent.book;
+        packet.truncate(sent.answer);
+        Ok(Some(packet))
+    }
+
+    // Writes an empty packet: acknowledgements of what arrived, and base news.
+    fn acknowledge(&mut self, alloc: Global) -> Result<Vec<u8>, Failure> {
+        let mut packet = vec![in alloc; 0; PACKET]?;
+        let sent = gateway::empty(self.book, LINE, CHANNEL, &mut packet)?;
+        self.book = sent.book;
+        packet.truncate(sent.answer);
+        Ok(packet)
+    }
+
+    // A packet arrives.
+    fn arrive(&mut self, packet: &[u8]) -> Result<(), Refusal> {
+        let arrived = gateway::arrive(self.book, &mut self.store, packet)?;
+        self.book = arrived.book;
+        Ok(())
+    }
+
+    // Hands out the next message. While it is still on its way there is NOTHING.
+    fn hand_out(&mut self, alloc: Global) -> Result<Option<Vec<u8>>, Failure> {
+        let mut message = vec![in alloc; 0; MESSAGE]?;
+        match gateway::hand_out(self.book, &self.store, LINE, CHANNEL, &mut message) {
+            Ok(handed) => {
+                self.book = handed.book;
+                message.truncate(handed.answer);
+                Ok(Some(message))
+            }
+            Err(Refusal::NOTHING) => Ok(None),
+            Err(refusal) => Err(refusal.into()),
         }
     }
 }
 
-// The office hands out the next message and prints it. NOTHING refuses while that message is still on its way.
-// A packet brings at most one message, so one a round keeps up.
-fn hand_out(rt: &impl Print, mut ends: Ends, b: &[u8; 42240]) -> io::Result<Ends> {
-    if MESSAGES <= ends.handed {
-        return Ok(ends);
-    }
-    let mut out = [0u8; 132];
-    let handed = gateway::hand_out(ends.office, b, 0, 1, &mut out);
-    let answer = handed.answer;
-    if printed(rt, answer, &out)? {
-        ends.handed += 1;
-    }
-    let office = handed.book;
-    ends.office = office;
-    Ok(ends)
+// The two gateways, how many messages the site has taken, and how many the office has handed out.
+#[derive(Drop)]
+struct Ends {
+    site: End,
+    office: End,
+    taken: u8,
+    handed_out: u8,
 }
 
-// The office writes an empty packet: acknowledgements of what arrived, and base news.
-fn acknowledge(
-    rt: &impl Print,
-    mut ends: Ends,
-    a: &mut [u8; 42240],
-    round: u8,
-) -> io::Result<Ends> {
-    let mut packet = [0u8; 144];
-    let sent = gateway::empty(ends.office, 0, 1, &mut packet);
-    let answer = sent.answer;
-    let n = written(rt, answer)?;
-    let site = cross(rt, ends.site, a, &packet, n, round % 3 == 2)?;
-    let office = sent.book;
-    ends.site = site;
-    ends.office = office;
-    Ok(ends)
-}
-
-// One round. Stores are passed on as arrays, not slices, which spares a proof of their length.
-fn turn(
-    rt: &impl Print,
-    mut ends: Ends,
-    a: &mut [u8; 42240],
-    b: &mut [u8; 42240],
-    round: u8,
-) -> io::Result<Ends> {
-    ends = take(rt, ends, a)?;
-    ends = send(rt, ends, a, b, round)?;
-    ends = hand_out(rt, ends, b)?;
-    acknowledge(rt, ends, a, round)
-}
-
-fn main(rt: HostRuntime) -> io::Result<()> {
-    let mut a = [0u8; 42240];
-    let mut b = [0u8; 42240];
-    let book = ready();
-    let mut ends = Ends {
-        site: book,
-        office: book,
-        taken: 0,
-        handed: 0,
-    };
-    let mut round = 0;
-    while round < ROUNDS && ends.handed < MESSAGES {
-        ends = turn(&rt, ends, &mut a, &mut b, round)?;
-        round += 1;
+impl Ends {
+    // Both ends are ready, and no message is taken yet.
+    fn ready(alloc: Global) -> Result<Ends, Failure> {
+        Ok(Ends {
+            site: End::ready(alloc)?,
+            office: End::ready(alloc)?,
+            taken: 0,
+            handed_out: 0,
+        })
     }
-    say(&rt, ends.handed, b" of 12 messages handed out\n")
+
+    // The site takes the next message. One that it has no room for is offered again in the next round.
+    fn take(&mut self, alloc: Global) -> Result<(), Failure> {
+        if self.taken < MESSAGES {
+            let message = format!(in alloc; "level 2: {} cars\n", 10 + self.taken)?;
+            if self.site.take(message.as_bytes())? {
+                self.taken += 1;
+            }
+        }
+        Ok(())
+    }
+
+    // The site writes a packet. Of all packets the link loses every third: the site's in rounds 1, 4, 7 and so on.
+    fn send(&mut self, alloc: Global, round: u8) -> Result<(), Failure> {
+        if let Some(packet) = self.site.send(alloc, round)? {
+            if round % 3 != 1 {
+                self.office.arrive(&packet)?;
+            }
+        }
+        Ok(())
+    }
+
+    // The office hands out the next message, if it has come, and prints it. A packet brings at most one, so one a round keeps up.
+    fn hand_out(&mut self, rt: &impl Print, alloc: Global) -> Result<(), Failure> {
+        if self.handed_out < MESSAGES {
+            if let Some(message) = self.office.hand_out(alloc)? {
+                rt.write_all(&message)?;
+                self.handed_out += 1;
+            }
+        }
+        Ok(())
+    }
+
+    // The office writes a packet of acknowledgements. The link loses the office's in rounds 2, 5, 8 and so on.
+    fn acknowledge(&mut self, alloc: Global, round: u8) -> Result<(), Failure> {
+        let packet = self.office.acknowledge(alloc)?;
+        if round % 3 != 2 {
+            self.site.arrive(&packet)?;
+        }
+        Ok(())
+    }
+
+    // One round.
+    fn turn(&mut self, rt: &impl Print, alloc: Global, round: u8) -> Result<(), Failure> {
+        self.take(alloc)?;
+        self.send(alloc, round)?;
+        self.hand_out(rt, alloc)?;
+        self.acknowledge(alloc, round)
+    }
+}
+
+fn main(rt: HostRuntime) -> Result<(), Failure> {
+    let mut ends = Ends::ready(rt.alloc())?;
+    for round in 0..ROUNDS {
+        if ends.handed_out == MESSAGES {
+            break;
+        }
+        ends.turn(&rt, rt.alloc(), round)?;
+    }
+    println!(rt; "{} of {MESSAGES} messages handed out", ends.handed_out)?;
+    Ok(())
 }

@@ -11,6 +11,7 @@ use lib.ListN.{length, get_or, get_or-eq_default}
 use lib.Arith.{digits_lt}
 use lib.Pow.{pow-add, high, low, shl_exact, shr-shr, mod-pow-add}
 use lib.Bits.{bit_and, bit_or, and_mask, or_shifted}
+use Rattle.std.proofs.Common.{Fits, w8}
 use Rattle.field.specs.Bits.{bit_at, bits_at}
 
 -- `hi << k | lo` at a word of n bits, as the machine computes it: the sum, where hi has j bits, lo has k and both have room
@@ -93,18 +94,22 @@ octet_of s i e h =
     let k : get_or s i 0 < 2 ^ 8 = omega arith in
     e ∙ sym (octet_is s i k)
 
--- two octets as a word, and two words as a number of 32 bits, as a reader joins them
-pub word_of : (s : List ℕ) (i : ℕ) {hi lo : ℕ} → hi ≡ get_or s i 0 → hi < 2 ^ 8 → lo ≡ get_or s (i + 1) 0 → lo < 2 ^ 8
-    → bit_or (hi * 2 ^ 8 % 2 ^ 16) lo ≡ bits_at s (8 * i) 16
-word_of s i p h q l =
-    let e : 8 * (i + 1) ≡ 8 * i + 8 = omega arith in
-    bits_join s (8 * i) 8 8 16 (lit≤ tt) (octet_of s i p h) (octet_of s (i + 1) q l ∙ ap (λ (n : ℕ). bits_at s n 8) e)
+-- two octets as a word, and four as a number of 32 bits
+pub word_of : (s : List ℕ) (i : ℕ) → ((k : ℕ) → Fits w8 (get_or s k 0)) → bits_at s (8 * i) 16 ≡ get_or s i 0 * 2 ^ 8 + get_or s (i + 1) 0
+word_of s i h =
+    let e : 8 * i + 8 ≡ 8 * (i + 1) = omega arith in
+    let hi : get_or s i 0 < 2 ^ 8 = omega (arith, h i) in
+    let lo : get_or s (i + 1) 0 < 2 ^ 8 = omega (arith, h (i + 1)) in
+    bits_add s (8 * i) 8 8 ∙ (λ t. octet_is s i hi t * 2 ^ 8 + (ap (λ (b : ℕ). bits_at s b 8) e ∙ octet_is s (i + 1) lo) t)
 
-pub long_of : (s : List ℕ) (i : ℕ) {hi lo : ℕ} → hi ≡ bits_at s (8 * i) 16 → lo ≡ bits_at s (8 * (i + 2)) 16
-    → bit_or (hi * 2 ^ 16 % 2 ^ 32) lo ≡ bits_at s (8 * i) 32
-long_of s i p q =
-    let e : 8 * (i + 2) ≡ 8 * i + 16 = omega arith in
-    bits_join s (8 * i) 16 16 32 (lit≤ tt) p (q ∙ ap (λ (n : ℕ). bits_at s n 16) e)
+pub long_of : (s : List ℕ) (i : ℕ) → ((k : ℕ) → Fits w8 (get_or s k 0))
+    → bits_at s (8 * i) 32 ≡ get_or s i 0 * 2 ^ 24 + get_or s (i + 1) 0 * 2 ^ 16 + get_or s (i + 2) 0 * 2 ^ 8 + get_or s (i + 3) 0
+long_of s i h =
+    let e : 8 * i + 16 ≡ 8 * (i + 2) = omega arith in
+    let e' : i + 2 + 1 ≡ i + 3 = omega arith in
+    let lo : bits_at s (8 * i + 16) 16 ≡ get_or s (i + 2) 0 * 2 ^ 8 + get_or s (i + 3) 0 =
+    ap (λ (b : ℕ). bits_at s b 16) e ∙ word_of s (i + 2) h ∙ (λ t. get_or s (i + 2) 0 * 2 ^ 8 + get_or s (e' t) 0) in
+    omega (arith, bits_add s (8 * i) 16 16, word_of s i h, lo)
 
 -- past the end all bits are 0
 pub bits_past : (s : List ℕ) (b w : ℕ) → 8 * length s ≤ b → bits_at s b w ≡ 0

@@ -1,8 +1,8 @@
-// Octets and the numbers that lie in them, most significant first (RULES 1.7): read and written by masks and shifts.
+// Octets and the numbers that lie in them, most significant first (RULES 1.7).
 // Every function here is total. An octet past the end reads as 0, and one that has no place is not written.
 #![tactic(auto)]
 
-ghost use Rattle.std.specs.Prelude.{◌≡◌, ◌*◌, min, get_or, set};
+ghost use Rattle.std.specs.Prelude.{◌≡◌, ℕ, ◌+◌, ◌*◌, ◌<◌, get_or};
 ghost use Rattle.std.proofs.lemmas.List.Edits.{sets};
 ghost use Rattle.field.specs.Bits.{bits_at};
 ghost use Rattle.field.specs.Layout.{octets, word_octets};
@@ -12,94 +12,76 @@ ghost use Rattle.field.specs.Word.{served};
 pub fn octet_at(s: &[u8], i: usize) -> u8
     ensures { result ≡ get_or s.now i 0 }
 {
-    if i < s.len() { s[i] } else { 0 }
+    s.get(i).copied().unwrap_or(0)
+}
+
+// The N octets from octet i on.
+fn octets_at<const N: usize>(s: &[u8], i: usize) -> [u8; N]
+    ensures { (k : ℕ) → k < N → get_or result k 0 ≡ get_or s.now (i + k) 0 }
+{
+    let mut octets = [0; N];
+    if i < s.len() {
+        let rest = &s[i..];
+        for (k, octet) in octets.iter_mut().enumerate() {
+            *octet = octet_at(rest, k);
+        }
+    }
+    octets
 }
 
 // The 16 bits from octet i on.
+#[tactic(auto, using(crate::proofs::Laws::word_of))]
 pub fn word_at(s: &[u8], i: usize) -> u16
     ensures { result ≡ bits_at s.now (8 * i) 16 }
 {
-    if s.len() <= i {
-        return 0;
-    }
-    let hi = octet_at(s, i) as u16;
-    let lo = octet_at(s, i + 1) as u16;
-    hi << 8 | lo
+    u16::from_be_bytes(octets_at(s, i))
 }
 
 // The 32 bits from octet i on.
+#[tactic(auto, using(crate::proofs::Laws::long_of))]
 pub fn long_at(s: &[u8], i: usize) -> u32
     ensures { result ≡ bits_at s.now (8 * i) 32 }
 {
-    if s.len() <= i {
-        return 0;
-    }
-    let hi = word_at(s, i) as u32;
-    let lo = word_at(s, i + 2) as u32;
-    hi << 16 | lo
+    u32::from_be_bytes(octets_at(s, i))
 }
 
-// Stores an octet at i.
-fn put_octet(out: &mut [u8], i: usize, x: u8)
-    ensures { out.new ≡ set out.old i x }
+// Stores octets one after the other, from `at` on. Octets that all have a place have a branch of their own: there the compiler sees how many
+// octets a word has, and makes one store of them.
+#[tactic(auto, using(crate::proofs::Stores::placed, std::proofs::lemmas::Grind::common_steps))]
+pub fn put_octets(out: &mut [u8], at: usize, src: &[u8])
+    ensures { out.new ≡ sets out.old at src.now }
 {
-    if i < out.len() {
-        out[i] = x;
+    if at < out.len() {
+        let room = out.len() - at;
+        if src.len() <= room {
+            out[at..at + src.len()].copy_from_slice(src);
+        } else {
+            out[at..].copy_from_slice(&src[..room]);
+        }
     }
 }
 
 // Stores the two octets of a word from i on.
-pub fn put_word(out: &mut [u8], i: usize, x: u16)
-    ensures { out.new ≡ sets out.old i (octets 2 x) }
+pub fn put_word(out: &mut [u8], i: usize, word: u16)
+    ensures { out.new ≡ sets out.old i (octets 2 word) }
 {
-    if out.len() <= i {
-        return;
-    }
-    put_octet(out, i, (x >> 8) as u8);
-    put_octet(out, i + 1, (x & 0xff) as u8);
+    put_octets(out, i, &word.to_be_bytes());
 }
 
 // Stores the four octets of a number from i on.
-pub fn put_long(out: &mut [u8], i: usize, x: u32)
-    ensures { out.new ≡ sets out.old i (octets 4 x) }
+pub fn put_long(out: &mut [u8], i: usize, number: u32)
+    ensures { out.new ≡ sets out.old i (octets 4 number) }
 {
-    if out.len() <= i {
-        return;
-    }
-    put_word(out, i, (x >> 16) as u16);
-    put_word(out, i + 2, (x & 0xffff) as u16);
+    put_octets(out, i, &number.to_be_bytes());
 }
 
 // Stores words one after the other, from the front on.
+#[tactic(auto, using(crate::proofs::Stores::words_on))]
 pub fn put_words(out: &mut [u8], words: &[u16])
     ensures { out.new ≡ sets out.old 0 (word_octets words.now) }
 {
-    let mut i = 0;
-    while i < words.len() {
-        put_word(out, 2 * i, words[i]);
-        i += 1;
-    }
-}
-
-// The lesser of two numbers.
-fn lesser(a: usize, b: usize) -> usize
-    ensures { result ≡ min a b }
-{
-    if a < b { a } else { b }
-}
-
-// Stores octets one after the other, from `at` on. How many have a place is worked out once, before the first is stored.
-pub fn put_octets(out: &mut [u8], at: usize, src: &[u8])
-    ensures { out.new ≡ sets out.old at src.now }
-{
-    if out.len() <= at {
-        return;
-    }
-    let most = lesser(src.len(), out.len() - at);
-    let mut i = 0;
-    while i < most {
-        out[at + i] = src[i];
-        i += 1;
+    for (i, word) in words.iter().enumerate() {
+        put_word(out, 2 * i, *word);
     }
 }
 
@@ -107,6 +89,5 @@ pub fn put_octets(out: &mut [u8], at: usize, src: &[u8])
 pub fn served(word: u16) -> bool
     ensures { result ≡ served word }
 {
-    let channel = word >> 14;
-    (1 <= channel) & (channel <= 2)
+    matches!(word >> 14, 1 | 2)
 }

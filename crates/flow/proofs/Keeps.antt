@@ -10,8 +10,8 @@ use lib.Dec.{ltb, leb}
 use lib.ListN.{length}
 use lib.Pow.{pow_mono, pow_pos, shr_lt, shr_le}
 use borrow.Author.Tests.{leb-true, ltb-true, le-leb, lt-ltb}
+use Rattle.std.specs.Prelude.{Ok}
 use Rattle.ground.specs.Refusal.{verdict}
-use Rattle.ground.specs.declared.Verdict.TheVariants.{Pass}
 use Rattle.ground.proofs.Picks.{pick_by, pick_lt, both_true, each, together, clash}
 use Rattle.ground.proofs.Verdicts.{passed}
 use Rattle.channel.specs.Channel.{cap}
@@ -153,7 +153,7 @@ module _ (w z : ℕ) (narrow : w ≤ widest) where
     sized : Sized w z s.sizes (mask_of s.unacked) s.origin
     sized = sending_sized w z s t
 
-    pub took_keeps : (size : ℕ) → w ≤ length s.sizes → verdict (take_tests w s) ≡ Pass → message_fits z size ≡ true → sending_fits w z
+    pub took_keeps : (size : ℕ) → w ≤ length s.sizes → verdict (take_tests w s) ≡ Ok tt → message_fits z size ≡ true → sending_fits w z
         (took_one w s size) ≡ true
     unfolding took_one
     took_keeps size long v f =
@@ -202,7 +202,7 @@ module _ (w z : ℕ) (narrow : w ≤ widest) where
         (rw mask_set (sized_with w z r.sizes (mask_of r.stored) r.origin (receiving_sized w z r t) okay.placed d size q long f))))
         (λ q. t)
 
-    pub handed_keeps : verdict (hand_tests r) ≡ Pass → receiving_fits w z (handed_out w r) ≡ true
+    pub handed_keeps : verdict (hand_tests r) ≡ Ok tt → receiving_fits w z (handed_out w r) ≡ true
     unfolding handed_out
     handed_keeps v =
         receiving_fits_lem w z (handed_out w r) (handed_ok r okay (ltb-true _ _ (passed (hand_tests r) v).0))

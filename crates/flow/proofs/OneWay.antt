@@ -8,6 +8,7 @@ use mathlib.Core.List.{List, [], ◌∷◌, ◌++◌}
 use native.Mathlib.Nat.{sub_self, add-zero}
 use native.Mathlib.Omega.{arith}
 use lib.ListN.{length, take}
+use Rattle.std.specs.Prelude.{Some}
 use Rattle.ground.proofs.Picks.{pick_lt}
 use Rattle.channel.specs.Channel.{modulus}
 use Rattle.channel.specs.Distance.{place_of}
@@ -16,7 +17,6 @@ use Rattle.places.specs.Places.{mask_of, bit_of, rank_of}
 use Rattle.receiving.specs.Receiving.{ReceivingOk, arrival_of, arrived_as, next_size, handed_out}
 use Rattle.sending.specs.Sending.{SendingOk, under_way, next_place, took_one, heard_base, acked_by}
 use Rattle.flow.specs.View.{Slots, message_at, message_of, sends, receives, PutAt, PutAs, SlotsHold}
-use Rattle.places.specs.declared.Place.TheVariants.{At}
 use Rattle.receiving.specs.declared.Receiving.{Receiving}
 use Rattle.sending.specs.declared.Sending.{Sending}
 use Rattle.flow.proofs.Fields.{heard_field, acked_field, arrival_field}
@@ -35,7 +35,7 @@ next_message w slot r l t =
     ∙ ap (message_at slot r.sizes) (pick_lt (λ (p : ℕ). p ≡ r.origin) (r.origin + 0) w (λ q. add-zero r.origin) (λ q. absurd (omega arith)))
 
 -- a held message, found by its rank, is one of h to S - 1, and the view shows its octets
-pub ranked_message : (w : ℕ) (slot : Slots) (s : Sending) (rank i : ℕ) → SendingOk w s → rank_of (mask_of s.unacked) rank ≡ At i
+pub ranked_message : (w : ℕ) (slot : Slots) (s : Sending) (rank i : ℕ) → SendingOk w s → rank_of (mask_of s.unacked) rank ≡ Some i
     → (i < under_way s) × ((sends w slot s).held (s.base + i) ≡ message_at slot s.sizes (place_of s.origin i w))
 ranked_message w slot s rank i k e =
     let back : s.base + i - s.base ≡ i = omega arith in (

@@ -7,9 +7,9 @@ use mathlib.Core.List.{[], ◌∷◌}
 use native.Mathlib.Omega.{arith}
 use lib.Dec.{ltb, leb, lit≤}
 use borrow.Author.Tests.{lt-ltb, leb-true}
+use Rattle.std.specs.Prelude.{Ok}
 use Rattle.ground.specs.Pick.{bit}
 use Rattle.ground.specs.Refusal.{verdict}
-use Rattle.ground.specs.declared.Verdict.TheVariants.{Pass}
 use Rattle.ground.proofs.Picks.{each, together}
 use Rattle.ground.proofs.Verdicts.{passed, passes}
 use Rattle.slip.specs.Slip.{slip_fits, write_tests}
@@ -47,7 +47,7 @@ slip_fits_lem l o f =
     (lt-ltb l.identifier 128 (omega arith), (s.1.0, (lt-ltb l.kind 128 (omega arith), (counted (receive_window l 1) (receive_largest l) l.receiving1 (lit≤ tt) k.receiving1, (counted (receive_window l 2) (receive_largest l) l.receiving2 (lit≤ tt) k.receiving2, (flag (ended l.modes), tt))))))
 
 -- so closing writes it
-pub slip_passes : (l : Line) (space : ℕ) → line_fits l ≡ true → verdict (close_tests l space) ≡ Pass → verdict (write_tests (slip_of l) space) ≡ Pass
+pub slip_passes : (l : Line) (space : ℕ) → line_fits l ≡ true → verdict (close_tests l space) ≡ Ok tt → verdict (write_tests (slip_of l) space) ≡ Ok tt
 unfolding close_tests
 slip_passes l space f e =
     let t = passed (close_tests l space) e in

@@ -1,5 +1,5 @@
 // The gateway: every call on a book of four lines. A caller keeps the book by value, lends a store of at least `Book::STORE` octets
-// and an output where a call needs them, and gets back the book as the call leaves it, with the answer.
+// and an output where a call needs them, and gets back the book as the call leaves it, with the answer, or a refusal.
 //
 // Every call accepts every book, store, packet, message, setting and time, ends, and answers what docs/RULES.md says: a refusal
 // by its name, with nothing changed, or its values. Nobody has to check anything first. CONNECT and BREAK bodies and slips are
@@ -14,11 +14,11 @@ ghost use Rattle.std.specs.Prelude.{ℕ, ◌≡◌, List};
 ghost use Rattle.ground.specs.Answer.{write_says};
 ghost use Rattle.book.specs.Book.{fresh_book};
 ghost use Rattle.calls.specs.Call as call;
-ghost use Rattle.calls.specs.Result.{result_with, result_of, slip_of};
+ghost use Rattle.calls.specs.Result.{result_of, does, slip_of};
 ghost use Rattle.gateway.specs.Says.{open_says};
 
 use book::Book;
-use ground::{Verdict, WriteAnswer};
+use ground::Refusal;
 use line::{Line, Settings};
 use slip::Slip;
 
@@ -37,22 +37,8 @@ pub use outgoing::held; // reports how many messages of a channel are held unack
 pub use incoming::arrive; // a packet arrives: answers its line. SHORT, FORM, NOLINE, TYPE, MODE, SHORT, CHANNEL, SIZE
 pub use incoming::hand_out; // hands out message R of a channel: answers how many octets. NOLINE, MODE, CHANNEL, SPENT, NOTHING, ROOM
 
-// What they leave: the book, and the answer to the call.
-pub use signals::Heard; // hear's answer is a `mode::HearAnswer`
-pub use signals::Asked; // ask's is a `mode::AskAnswer`
-pub use signals::Ticked; // tick's is a `mode::TickAnswer`
-pub use outgoing::Taken; // take's is a `TakeAnswer`
-pub use outgoing::TakeAnswer; // a message's number, or a refusal
-pub use outgoing::HeldAnswer; // held leaves the book alone, and answers how many, or a refusal
-pub use incoming::Arrived; // arrive's is an `ArriveAnswer`
-pub use incoming::ArriveAnswer; // a packet's line, or a refusal
-pub use calls::Written; // send, empty, hand_out and closing answer a `ground::WriteAnswer`: how many octets are in the output, or a refusal
-
-#[derive(Clone, Copy)]
-pub struct Opened {
-    pub book: Book,
-    pub answer: Verdict,
-}
+// What an accepted call leaves: the book, and its answer. Where a call is refused the caller's book and all that is lent stay as they were.
+pub use calls::After; // of hear a `mode::Heard`, of tick a `mode::Due`, of opening nothing, else a number
 
 // A fresh book: four closed lines, and no identifier rests.
 pub fn fresh() -> Book
@@ -62,24 +48,13 @@ pub fn fresh() -> Book
 }
 
 // Opens a line. TAKEN for the line, RANGE for a setting, TAKEN for the identifier.
-pub fn open(book: Book, line: u8, settings: Settings, time: u64) -> Opened
-    ensures { (store out : List ℕ) → result_with (open_says result.answer) result.book store out ≡ result_of (call.opening line settings time) book store out }
+pub fn open(book: Book, line: u8, settings: Settings, time: u64) -> Result<After<()>, Refusal>
+    ensures { (store out : List ℕ) → does open_says book result store out ≡ result_of (call.opening line settings time) book store out }
 {
-    let verdict = calls::may_open(book, line, settings);
-    match verdict {
-        Verdict::Refuse(r) => Opened {
-            book,
-            answer: Verdict::Refuse(r),
-        },
-        Verdict::Pass => {
-            let opened = Line::opened_with(settings, time);
-            let next = book.with_line(line, opened);
-            Opened {
-                book: next,
-                answer: Verdict::Pass,
-            }
-        }
-    }
+    calls::may_open(book, line, settings)?;
+    let opened = Line::opened_with(settings, time);
+    let book = book.with_line(line, opened);
+    Ok(After { book, answer: () })
 }
 
 // The slip of a line: what was handed out on its channels, and whether recovery ended it.
@@ -101,20 +76,11 @@ fn slip_of(l: Line) -> Slip
 }
 
 // Closes a line and writes its slip: answers how many octets, which is 12. NOLINE, ROOM for the output.
-pub fn close(book: Book, line: u8, out: &mut [u8]) -> Written
-    ensures { (store : List ℕ) → result_with (write_says result.answer) result.book store out.new ≡ result_of (call.closing line) book store out.old }
+pub fn close(book: Book, line: u8, out: &mut [u8]) -> Result<After<usize>, Refusal>
+    ensures { (store : List ℕ) → does write_says book result store out.new ≡ result_of (call.closing line) book store out.old }
 {
-    let verdict = calls::may_close(book, line, out.len());
-    match verdict {
-        Verdict::Refuse(r) => Written {
-            book,
-            answer: WriteAnswer::Refused(r),
-        },
-        Verdict::Pass => {
-            let slip = slip_of(book.line(line));
-            let answer = slip::write(out, slip);
-            let next = book.closed_at(line);
-            Written { book: next, answer }
-        }
-    }
+    calls::may_close(book, line, out.len())?;
+    let answer = slip::write(out, slip_of(book.line(line))).unwrap();
+    let book = book.closed_at(line);
+    Ok(After { book, answer })
 }

@@ -1,11 +1,9 @@
 -- Refusals: their numbers, and the order in which tests are made.
 -- Assumes nothing.
-use Rattle.std.specs.Prelude.{ℕ, Bool, List, [], ◌∷◌}
+use Rattle.std.specs.Prelude.{ℕ, Bool, List, [], ◌∷◌, Result, Ok, Err}
 use Rattle.ground.specs.Pick.{pick}
 use Rattle.ground.specs.declared.Refusal.{Refusal}
 use Rattle.ground.specs.declared.Refusal.TheVariants.{SHORT, FORM, TYPE, NOLINE, MODE, CHANNEL, SIZE, FULL, SPENT, NOTHING, ROOM, TAKEN, RANGE, CLOCK, RECOVERY, LENGTH, RESERVED, BOOK}
-use Rattle.ground.specs.declared.Verdict.{Verdict}
-use Rattle.ground.specs.declared.Verdict.TheVariants.{Pass, Refuse}
 
 -- the number of each refusal (RULES 13.1 to RULES 13.18)
 abbrev pub number_of : Refusal → ℕ
@@ -36,12 +34,16 @@ pub record Test : Type 0 where
 abbrev pub must : Bool → Refusal → Test
 must t r = record { holds = t; why = r }
 
+-- what a run of tests in a call's order comes to: all hold, or the refusal of the first that does not
+abbrev pub Verdict : Type 0
+Verdict = Result Unit Refusal
+
 -- the first test that does not hold decides; the calls' lists of tests are in the orders of RULES 14.1 to RULES 14.21
 abbrev pub verdict : List Test → Verdict
-verdict [] = Pass
-verdict (t ∷ ts) = pick t.holds (verdict ts) (Refuse t.why)
+verdict [] = Ok tt
+verdict (t ∷ ts) = pick t.holds (verdict ts) (Err t.why)
 
 -- an answer by a verdict: a refusal, or what else is answered
 abbrev pub settle {ℓ} : {A : Type ℓ} → Verdict → (Refusal → A) → A → A
-settle Pass refused took = took
-settle (Refuse r) refused took = refused r
+settle (Ok u) refused took = took
+settle (Err r) refused took = refused r

@@ -1,11 +1,14 @@
-// What every crate stands on: the refusals by name (RULES 13.1 to RULES 13.18), and the two shapes of answer that carry them.
+// What every crate stands on: the refusals by name, and the number of each (RULES 13.1 to RULES 13.18).
+// A call that may refuse answers a `Result` of what it gives, or of one of these.
 #![tactic(auto)]
 
 ghost use Rattle.std.specs.Prelude.{◌≡◌};
 ghost use Rattle.ground.specs.Refusal.{number_of};
 
+use std::fmt;
+
 // The eighteen refusals, in the order of their numbers.
-#[derive(Clone, Copy)]
+#[derive(Clone, Copy, Debug, PartialEq, Eq)]
 pub enum Refusal {
     SHORT,
     FORM,
@@ -27,42 +30,57 @@ pub enum Refusal {
     BOOK,
 }
 
-// What a run of tests in a call's order comes to: all hold, or the refusal of the first that does not.
-#[derive(Clone, Copy)]
-pub enum Verdict {
-    Pass,
-    Refuse(Refusal),
-}
-
-// What a call that writes octets answers: how many it wrote, or why it wrote none.
-#[derive(Clone, Copy)]
-pub enum WriteAnswer {
-    Wrote(usize),
-    Refused(Refusal),
-}
-
 // The number of a refusal (RULES 13.1 to RULES 13.18).
-pub fn number(r: Refusal) -> u8
-    ensures { result ≡ number_of r }
-{
-    match r {
-        Refusal::SHORT => 1,
-        Refusal::FORM => 2,
-        Refusal::TYPE => 3,
-        Refusal::NOLINE => 4,
-        Refusal::MODE => 5,
-        Refusal::CHANNEL => 6,
-        Refusal::SIZE => 7,
-        Refusal::FULL => 8,
-        Refusal::SPENT => 9,
-        Refusal::NOTHING => 10,
-        Refusal::ROOM => 11,
-        Refusal::TAKEN => 12,
-        Refusal::RANGE => 13,
-        Refusal::CLOCK => 14,
-        Refusal::RECOVERY => 15,
-        Refusal::LENGTH => 16,
-        Refusal::RESERVED => 17,
-        Refusal::BOOK => 18,
+impl From<Refusal> for u8 {
+    ghost from_gives = { λ r n. n ≡ number_of r };
+
+    fn from(r: Refusal) -> u8 {
+        match r {
+            Refusal::SHORT => 1,
+            Refusal::FORM => 2,
+            Refusal::TYPE => 3,
+            Refusal::NOLINE => 4,
+            Refusal::MODE => 5,
+            Refusal::CHANNEL => 6,
+            Refusal::SIZE => 7,
+            Refusal::FULL => 8,
+            Refusal::SPENT => 9,
+            Refusal::NOTHING => 10,
+            Refusal::ROOM => 11,
+            Refusal::TAKEN => 12,
+            Refusal::RANGE => 13,
+            Refusal::CLOCK => 14,
+            Refusal::RECOVERY => 15,
+            Refusal::LENGTH => 16,
+            Refusal::RESERVED => 17,
+            Refusal::BOOK => 18,
+        }
+    }
+}
+
+// The name of a refusal, as the rules write it.
+impl fmt::Display for Refusal {
+    fn fmt<W: fmt::Write>(&self, f: &mut fmt::Formatter<W>) -> fmt::Result {
+        let name = match self {
+            Refusal::SHORT => "SHORT",
+            Refusal::FORM => "FORM",
+            Refusal::TYPE => "TYPE",
+            Refusal::NOLINE => "NOLINE",
+            Refusal::MODE => "MODE",
+            Refusal::CHANNEL => "CHANNEL",
+            Refusal::SIZE => "SIZE",
+            Refusal::FULL => "FULL",
+            Refusal::SPENT => "SPENT",
+            Refusal::NOTHING => "NOTHING",
+            Refusal::ROOM => "ROOM",
+            Refusal::TAKEN => "TAKEN",
+            Refusal::RANGE => "RANGE",
+            Refusal::CLOCK => "CLOCK",
+            Refusal::RECOVERY => "RECOVERY",
+            Refusal::LENGTH => "LENGTH",
+            Refusal::RESERVED => "RESERVED",
+            Refusal::BOOK => "BOOK",
+        };
+        f.write_str(name)
     }
 }

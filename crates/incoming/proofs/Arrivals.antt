@@ -5,110 +5,103 @@ use mathlib.Core.Path.{◌≡◌, refl, sym, ap, ◌∙◌}
 use mathlib.Core.List.{List, [], ◌∷◌}
 use native.Mathlib.Omega.{arith}
 use lib.ListN.{length}
-use Rattle.ground.specs.Refusal.{Test, must, verdict, settle}
+use Rattle.std.specs.Prelude.{Some, None, Result, Ok, Err, is_some}
+use Rattle.ground.specs.Refusal.{Verdict, Test, must, verdict, settle}
 use Rattle.ground.specs.declared.Refusal.{Refusal}
 use Rattle.ground.specs.declared.Refusal.TheVariants.{NOLINE}
-use Rattle.ground.specs.declared.Verdict.{Verdict}
-use Rattle.ground.specs.declared.Verdict.TheVariants.{Pass, Refuse}
 use Rattle.ground.proofs.Settled.{verdict_of_answer}
 use Rattle.ground.proofs.Verdicts.{verdict_on, verdict_stop}
 use Rattle.packet.specs.Read.{head_at, acks_at, head_tests, head_read}
 use Rattle.packet.specs.declared.Acks.{Acks}
-use Rattle.packet.specs.declared.AcksReading.{AcksReading}
-use Rattle.packet.specs.declared.AcksReading.TheVariants as acks
 use Rattle.packet.specs.declared.Head.{Head}
-use Rattle.packet.specs.declared.HeadReading.{HeadReading}
-use Rattle.packet.specs.declared.HeadReading.TheVariants as head
 use Rattle.arriving.specs.Arrive.{arrive_tests}
 use Rattle.book.specs.Book.{line_of}
 use Rattle.book.specs.declared.Book.{Book}
 use Rattle.book.proofs.OneOwner.{whose_at}
-use Rattle.book.specs.declared.Owner.TheVariants.{At, Nobody}
-use Rattle.calls.specs.Order.{packet_line, is_somebody, owner_line}
+use Rattle.calls.specs.Order.{packet_line, owner_line}
 use Rattle.calls.specs.Stages.{address_tests, arrival_tests}
 use Rattle.incoming.specs.Reading.{arriving_at}
-use Rattle.incoming.specs.declared.ArriveVerdict.{ArriveVerdict}
-use Rattle.incoming.specs.declared.ArriveVerdict.TheVariants as may
+use Rattle.incoming.specs.declared.Arriving.{Arriving}
 
-abbrev why_head : HeadReading → Verdict
-why_head (head.Says h) = Pass
-why_head (head.Refused r) = Refuse r
+abbrev why_head : Result Head Refusal → Verdict
+why_head (Ok h) = Ok tt
+why_head (Err r) = Err r
 
-abbrev head_in : Head → HeadReading → Head
-head_in d (head.Says h) = h
-head_in d (head.Refused r) = d
+abbrev head_in : Head → Result Head Refusal → Head
+head_in d (Ok h) = h
+head_in d (Err r) = d
 
 -- what a head's reading says of its tests
-module _ (s : List ℕ) {r : HeadReading} (e : r ≡ head_read s) where
+module _ (s : List ℕ) {r : Result Head Refusal} (e : r ≡ head_read s) where
   pub head_verdict : verdict (head_tests s) ≡ why_head r
   head_verdict = verdict_of_answer why_head (verdict (head_tests s)) e (λ x. refl) refl
 
-  pub head_passes : {h : Head} → r ≡ head.Says h → verdict (head_tests s) ≡ Pass
+  pub head_passes : {h : Head} → r ≡ Ok h → verdict (head_tests s) ≡ Ok tt
   head_passes p = head_verdict ∙ ap why_head p
 
-  pub head_refuses : {x : Refusal} → r ≡ head.Refused x → verdict (head_tests s) ≡ Refuse x
+  pub head_refuses : {x : Refusal} → r ≡ Err x → verdict (head_tests s) ≡ Err x
   head_refuses p = head_verdict ∙ ap why_head p
 
-  pub head_is : {h : Head} → r ≡ head.Says h → h ≡ head_at s
+  pub head_is : {h : Head} → r ≡ Ok h → h ≡ head_at s
   head_is {h} p =
-      let q : head_read s ≡ head.Says (head_at s) = ap (λ (v : Verdict). settle v head.Refused (head.Says (head_at s))) (head_passes p) in
+      let q : head_read s ≡ Ok (head_at s) = ap (λ (v : Verdict). settle v Err (Ok (head_at s))) (head_passes p) in
       ap (head_in (head_at s)) (sym p ∙ e ∙ q)
 
 -- what a line's tests settle on
-abbrev pub arrives_at : ℕ → List ℕ → Verdict → ArriveVerdict
-arrives_at i s v = settle v may.Refused (may.Packet (arriving_at i s))
+abbrev pub arrives_at : ℕ → List ℕ → Verdict → Result Arriving Refusal
+arrives_at i s v = settle v Err (Ok (arriving_at i s))
 
 -- what the line answers, the list's reading or a refusal, tells its verdict
-abbrev acks_in : Acks → AcksReading → Acks
-acks_in d (acks.Says a) = a
-acks_in d (acks.Refused r) = d
+abbrev acks_in : Acks → Result Acks Refusal → Acks
+acks_in d (Ok a) = a
+acks_in d (Err r) = d
 
-module _ (i : ℕ) (s : List ℕ) (v : Verdict) {r : AcksReading} (e : r ≡ settle v acks.Refused (acks.Says (acks_at s))) where
-  pub reading_refuses : {x : Refusal} → r ≡ acks.Refused x → may.Refused x ≡ arrives_at i s v
+module _ (i : ℕ) (s : List ℕ) (v : Verdict) {r : Result Acks Refusal} (e : r ≡ settle v Err (Ok (acks_at s))) where
+  pub reading_refuses : {x : Refusal} → r ≡ Err x → Err x ≡ arrives_at i s v
   reading_refuses {x} p = go v e
     where
-      go : (w : Verdict) → r ≡ settle w acks.Refused (acks.Says (acks_at s)) → may.Refused x ≡ arrives_at i s w
-      go Pass q = absurd (let y : acks.Says (acks_at s) ≡ acks.Refused x = sym q ∙ p in let z : ◌≡◌ {A = ℕ} 0 1 = cc in omega arith)
-      go (Refuse y) q = let f : acks.Refused y ≡ acks.Refused x = sym q ∙ p in cc
+      go : (w : Verdict) → r ≡ settle w Err (Ok (acks_at s)) → Err x ≡ arrives_at i s w
+      go (Ok tt) q = absurd (let y : Ok (acks_at s) ≡ Err x = sym q ∙ p in let z : ◌≡◌ {A = ℕ} 0 1 = cc in omega arith)
+      go (Err y) q = let f : Err y ≡ Err x = sym q ∙ p in cc
 
-  pub reading_says : {h : Head} {a : Acks} → h ≡ head_at s → r ≡ acks.Says a → may.Packet (record { line = i; head = h; acks = a }) ≡ arrives_at i s v
+  pub reading_says : {h : Head} {a : Acks} → h ≡ head_at s → r ≡ Ok a → Ok (record { line = i; head = h; acks = a }) ≡ arrives_at i s v
   reading_says {h} {a} k p = go v e
     where
-      go : (w : Verdict) → r ≡ settle w acks.Refused (acks.Says (acks_at s)) → may.Packet (record { line = i; head = h; acks = a }) ≡ arrives_at i s w
-      go Pass q = let f : a ≡ acks_at s = ap (acks_in (acks_at s)) (sym p ∙ q) in λ t. may.Packet (record { line = i; head = k t; acks = f t })
-      go (Refuse y) q = absurd (let f : acks.Refused y ≡ acks.Says a = sym q ∙ p in let z : ◌≡◌ {A = ℕ} 0 1 = cc in omega arith)
+      go : (w : Verdict) → r ≡ settle w Err (Ok (acks_at s)) → Ok (record { line = i; head = h; acks = a }) ≡ arrives_at i s w
+      go (Ok tt) q = let f : a ≡ acks_at s = ap (acks_in (acks_at s)) (sym p ∙ q) in λ t. Ok (record { line = i; head = k t; acks = f t })
+      go (Err y) q = absurd (let f : Err y ≡ Ok a = sym q ∙ p in let z : ◌≡◌ {A = ℕ} 0 1 = cc in omega arith)
 
 module _ (b : Book) (s : List ℕ) where
-  abbrev pub arrives : Verdict → ArriveVerdict
+  abbrev pub arrives : Verdict → Result Arriving Refusal
   arrives = arrives_at (owner_line (packet_line b s)) s
 
   abbrev last : List Test
-  last = must (is_somebody (packet_line b s)) NOLINE ∷ []
+  last = must (is_some (packet_line b s)) NOLINE ∷ []
 
   abbrev asks : List Test
   asks = arrive_tests (line_of b (owner_line (packet_line b s))) s
 
   -- the head is refused
-  pub arrival_refused : {x : Refusal} → verdict (head_tests s) ≡ Refuse x → may.Refused x ≡ arrives (verdict (arrival_tests b s))
+  pub arrival_refused : {x : Refusal} → verdict (head_tests s) ≡ Err x → Err x ≡ arrives (verdict (arrival_tests b s))
   unfolding arrival_tests address_tests
   arrival_refused e = ap arrives (sym (verdict_stop (address_tests b s) asks (verdict_stop (head_tests s) last e)))
 
-  module _ (e : verdict (head_tests s) ≡ Pass) where
+  module _ (e : verdict (head_tests s) ≡ Ok tt) where
     -- no open line has the identifier
-    pub arrival_nobody : packet_line b s ≡ Nobody → may.Refused NOLINE ≡ arrives (verdict (arrival_tests b s))
+    pub arrival_nobody : packet_line b s ≡ None → Err NOLINE ≡ arrives (verdict (arrival_tests b s))
     unfolding arrival_tests address_tests
     arrival_nobody p =
-        let f : verdict (address_tests b s) ≡ Refuse NOLINE = verdict_on (head_tests s) last e ∙ simp p in
+        let f : verdict (address_tests b s) ≡ Err NOLINE = verdict_on (head_tests s) last e ∙ simp p in
         ap arrives (sym (verdict_stop (address_tests b s) asks f))
 
     -- one has it, and its tests decide
-    pub arrival_at_lem : {i : ℕ} → packet_line b s ≡ At i → arrives_at i s (verdict (arrive_tests (line_of b i) s)) ≡ arrives (verdict (arrival_tests b s))
+    pub arrival_at_lem : {i : ℕ} → packet_line b s ≡ Some i → arrives_at i s (verdict (arrive_tests (line_of b i) s)) ≡ arrives (verdict (arrival_tests b s))
     unfolding arrival_tests address_tests
     arrival_at_lem p =
-        let f : verdict (address_tests b s) ≡ Pass = verdict_on (head_tests s) last e ∙ simp p in
+        let f : verdict (address_tests b s) ≡ Ok tt = verdict_on (head_tests s) last e ∙ simp p in
         let g = ap owner_line (sym p) in
         (λ t. arrives_at (g t) s (verdict (arrive_tests (line_of b (g t)) s))) ∙ ap arrives (sym (verdict_on (address_tests b s) asks f))
 
   -- the line that has it is one of the book's
-  pub arrival_in : {i : ℕ} → packet_line b s ≡ At i → i < length b.lines
+  pub arrival_in : {i : ℕ} → packet_line b s ≡ Some i → i < length b.lines
   arrival_in {i} p = (whose_at b (head_at s).identifier i p).0

@@ -7,11 +7,10 @@ use mathlib.Core.List.{List, [], ◌∷◌}
 use native.Mathlib.Omega.{arith}
 use lib.ListN.{length, drop, length-drop, length-take}
 use borrow.Author.Tests.{leb-true}
-use Rattle.ground.specs.Refusal.{must, verdict, settle}
+use Rattle.std.specs.Prelude.{Option, Some, None, Result, Ok, Err, is_some}
+use Rattle.ground.specs.Refusal.{Verdict, must, verdict, settle}
 use Rattle.ground.specs.declared.Refusal.{Refusal}
 use Rattle.ground.specs.declared.Refusal.TheVariants.{NOLINE}
-use Rattle.ground.specs.declared.Verdict.{Verdict}
-use Rattle.ground.specs.declared.Verdict.TheVariants.{Pass, Refuse}
 use Rattle.ground.proofs.Verdicts.{passed, pass_both}
 use Rattle.ground.proofs.Settled.{verdict_of_answer}
 use Rattle.packet.specs.Read.{head_at, head_tests}
@@ -29,73 +28,69 @@ use Rattle.arriving.specs.Arrive.{arrive_tests}
 use Rattle.book.specs.Book.{book_fits, line_of}
 use Rattle.book.specs.Parts.{store_length}
 use Rattle.book.specs.declared.Book.{Book}
-use Rattle.book.specs.declared.Owner.{Owner}
-use Rattle.book.specs.declared.Owner.TheVariants.{At, Nobody}
 use Rattle.book.proofs.Facts.{line_fits_lem}
 use Rattle.book.proofs.OneOwner.{whose_at}
-use Rattle.calls.specs.Order.{arrive_order, packet_line, is_somebody, owner_line}
+use Rattle.calls.specs.Order.{arrive_order, packet_line, owner_line}
 use Rattle.calls.specs.Stages.{fit_book, roomy, address_tests, arrival_tests}
 use Rattle.calls.proofs.OrderStages.{arrive_stages}
 use Rattle.incoming.specs.Reading.{arriving_at}
 use Rattle.incoming.specs.declared.Arriving.{Arriving}
-use Rattle.incoming.specs.declared.ArriveVerdict.{ArriveVerdict}
-use Rattle.incoming.specs.declared.ArriveVerdict.TheVariants as arrives
 
-abbrev why_arrive : ArriveVerdict → Verdict
-why_arrive (arrives.Packet a) = Pass
-why_arrive (arrives.Refused r) = Refuse r
+abbrev why_arrive : Result Arriving Refusal → Verdict
+why_arrive (Ok a) = Ok tt
+why_arrive (Err r) = Err r
 
-abbrev packet_or : Arriving → ArriveVerdict → Arriving
-packet_or d (arrives.Packet a) = a
-packet_or d (arrives.Refused r) = d
+abbrev packet_or : Arriving → Result Arriving Refusal → Arriving
+packet_or d (Ok a) = a
+packet_or d (Err r) = d
 
 -- a packet's line and what it passed there
 pub record Addressed (b : Book) (n : ℕ) (s : List ℕ) (i : ℕ) : Type 0 where
   pub book : book_fits b ≡ true
   pub store : store_length b ≤ n
-  pub owner : packet_line b s ≡ At i
+  pub owner : packet_line b s ≡ Some i
   pub number : i < length b.lines
   pub opened : is_open (line_of b i) ≡ true
   pub fits : line_fits (line_of b i) ≡ true
-  pub head : verdict (head_tests s) ≡ Pass
-  pub line : verdict (arrive_tests (line_of b i) s) ≡ Pass
+  pub head : verdict (head_tests s) ≡ Ok tt
+  pub line : verdict (arrive_tests (line_of b i) s) ≡ Ok tt
 
 -- a packet whose address passes has its owner
-pub address_owner : (b : Book) (s : List ℕ) → verdict (address_tests b s) ≡ Pass → packet_line b s ≡ At (owner_line (packet_line b s))
+pub address_owner : (b : Book) (s : List ℕ) → verdict (address_tests b s) ≡ Ok tt → packet_line b s ≡ Some (owner_line (packet_line b s))
 unfolding address_tests
 address_owner b s e =
-    let h = pass_both (head_tests s) (must (is_somebody (packet_line b s)) NOLINE ∷ []) e in
-    somebody (packet_line b s) (passed (must (is_somebody (packet_line b s)) NOLINE ∷ []) h.1).0
+    let h = pass_both (head_tests s) (must (is_some (packet_line b s)) NOLINE ∷ []) e in
+    somebody (packet_line b s) (passed (must (is_some (packet_line b s)) NOLINE ∷ []) h.1).0
   where
-    somebody : (w : Owner) → is_somebody w ≡ true → w ≡ At (owner_line w)
-    somebody (At j) t = refl
-    somebody Nobody t = absurd (let z : ◌≡◌ {A = ℕ} 0 1 = cc in omega arith)
+    somebody : (w : Option ℕ) → is_some w ≡ true → w ≡ Some (owner_line w)
+    somebody (Some j) t = refl
+    somebody None t = absurd (let z : ◌≡◌ {A = ℕ} 0 1 = cc in omega arith)
 
-pub addressed : (b : Book) (n : ℕ) (s : List ℕ) → verdict (fit_book b ∷ roomy b n ∷ arrival_tests b s) ≡ Pass → Addressed b n s (owner_line (packet_line b s))
+pub addressed : (b : Book) (n : ℕ) (s : List ℕ) → verdict (fit_book b ∷ roomy b n ∷ arrival_tests b s) ≡ Ok tt → Addressed b n s (owner_line (packet_line b s))
 unfolding arrival_tests address_tests
 addressed b n s e =
     let i = owner_line (packet_line b s) in
     let p = pass_both (fit_book b ∷ roomy b n ∷ []) (arrival_tests b s) e in
     let t = passed (fit_book b ∷ roomy b n ∷ []) p.0 in
     let q = pass_both (address_tests b s) (arrive_tests (line_of b i) s) p.1 in
-    let h = pass_both (head_tests s) (must (is_somebody (packet_line b s)) NOLINE ∷ []) q.0 in
+    let h = pass_both (head_tests s) (must (is_some (packet_line b s)) NOLINE ∷ []) q.0 in
     let o = address_owner b s q.0 in
     let w = whose_at b (head_at s).identifier i o in
     record { book = t.0; store = leb-true _ _ t.1.0; owner = o; number = w.0; opened = w.1; fits = line_fits_lem b t.0 i; head = h.0; line = q.1 }
 
-module _ (b : Book) (n : ℕ) (s : List ℕ) {r : ArriveVerdict} (e : r ≡ settle (verdict (arrive_order b n s)) arrives.Refused (arrives.Packet (arriving_at (owner_line (packet_line b s)) s))) where
-  pub arrive_refuses : {x : Refusal} → r ≡ arrives.Refused x → verdict (arrive_order b n s) ≡ Refuse x
+module _ (b : Book) (n : ℕ) (s : List ℕ) {r : Result Arriving Refusal} (e : r ≡ settle (verdict (arrive_order b n s)) Err (Ok (arriving_at (owner_line (packet_line b s)) s))) where
+  pub arrive_refuses : {x : Refusal} → r ≡ Err x → verdict (arrive_order b n s) ≡ Err x
   arrive_refuses p = verdict_of_answer why_arrive (verdict (arrive_order b n s)) e (λ x. refl) refl ∙ ap why_arrive p
 
-  module _ {a : Arriving} (p : r ≡ arrives.Packet a) where
-    pub arrive_passes : verdict (arrive_order b n s) ≡ Pass
+  module _ {a : Arriving} (p : r ≡ Ok a) where
+    pub arrive_passes : verdict (arrive_order b n s) ≡ Ok tt
     arrive_passes = verdict_of_answer why_arrive (verdict (arrive_order b n s)) e (λ x. refl) refl ∙ ap why_arrive p
 
     -- what was read is what the octets say
     pub arrive_is : a ≡ arriving_at (owner_line (packet_line b s)) s
     arrive_is =
         ap (packet_or (arriving_at (owner_line (packet_line b s)) s))
-        (sym p ∙ e ∙ ap (λ (v : Verdict). settle {A = ArriveVerdict} v arrives.Refused (arrives.Packet (arriving_at (owner_line (packet_line b s)) s))) arrive_passes)
+        (sym p ∙ e ∙ ap (λ (v : Verdict). settle {A = Result Arriving Refusal} v Err (Ok (arriving_at (owner_line (packet_line b s)) s))) arrive_passes)
 
     pub arrive_line : owner_line (packet_line b s) ≡ a.line
     arrive_line = sym (ap (λ (x : Arriving). x.line) arrive_is)
@@ -104,7 +99,7 @@ module _ (b : Book) (n : ℕ) (s : List ℕ) {r : ArriveVerdict} (e : r ≡ sett
     arrive_addressed = rw arrive_line at (addressed b n s (sym (ap verdict (arrive_stages b n s)) ∙ arrive_passes))
 
 -- the message handed out has as many octets as its size says
-pub handed_length : (l : Line) (channel space : ℕ) (part : List ℕ) → line_fits l ≡ true → part_length l ≤ length part → verdict (hand_call_tests l channel space) ≡ Pass
+pub handed_length : (l : Line) (channel space : ℕ) (part : List ℕ) → line_fits l ≡ true → part_length l ≤ length part → verdict (hand_call_tests l channel space) ≡ Ok tt
     → length (handed_octets l channel part) ≡ next_size (receiving_of l channel)
 handed_length l channel space part fits large e =
     let g = region_of l Receiving channel in

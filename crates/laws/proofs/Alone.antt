@@ -8,11 +8,10 @@ use native.Mathlib.Omega.{arith}
 use lib.Dec.{leb}
 use lib.ListN.{length, drop}
 use borrow.Author.Tests.{eqb-true, le-leb}
+use Rattle.std.specs.Prelude.{Option, Some, Ok, Err, is_some}
 use Rattle.ground.specs.Answer.{accepted}
-use Rattle.ground.specs.Refusal.{Test, must, verdict}
+use Rattle.ground.specs.Refusal.{Verdict, Test, must, verdict}
 use Rattle.ground.specs.declared.Refusal.TheVariants.{NOLINE, TAKEN}
-use Rattle.ground.specs.declared.Verdict.{Verdict}
-use Rattle.ground.specs.declared.Verdict.TheVariants.{Pass, Refuse}
 use Rattle.ground.proofs.Verdicts.{pass_both}
 use Rattle.packet.specs.Read.{head_at, head_tests}
 use Rattle.line.specs.Line.{is_open}
@@ -32,14 +31,12 @@ use Rattle.book.specs.Book.{line_of, book_fits, owner_of}
 use Rattle.book.specs.Parts.{part_start, store_length, part_of}
 use Rattle.book.specs.Shape.{BookShaped}
 use Rattle.book.specs.declared.Book.{Book}
-use Rattle.book.specs.declared.Owner.{Owner}
-use Rattle.book.specs.declared.Owner.TheVariants.{At}
 use Rattle.book.proofs.Facts.{line_fits_lem}
 use Rattle.book.proofs.OneOwner.{whose_found}
 use Rattle.book.proofs.Parts.{part_in_lem, part_long, part_put}
 use Rattle.calls.specs.Call.{Call}
 use Rattle.calls.specs.Call as call
-use Rattle.calls.specs.Order.{line_for, packet_line, is_somebody, owner_line}
+use Rattle.calls.specs.Order.{line_for, packet_line, owner_line}
 use Rattle.calls.specs.Stages.{tests, fit_book, roomy, line_number, open_tests, close_tests, mode_tests, address_tests, arrival_tests}
 use Rattle.calls.specs.Result.{Effect, result_of, effect}
 use Rattle.calls.proofs.OrderStages.{in_stages}
@@ -82,7 +79,7 @@ own_part (call.report _ channel) l part = part
 
 module _ {b : Book} {store : List ℕ} {i : ℕ} (o : OpenAt b store i) where
   -- a packet with the line's identifier is the line's
-  owner : (s : List ℕ) → (head_at s).identifier ≡ (line_of b i).identifier → packet_line b s ≡ At i
+  owner : (s : List ℕ) → (head_at s).identifier ≡ (line_of b i).identifier → packet_line b s ≡ Some i
   owner s e = ap (owner_of b) e ∙ whose_found b o.fits o.shaped i o.small o.opened
 
   pub line_for_lem : (k : Call) → for_line i (line_of b i).identifier k ≡ true → line_for k b ≡ i
@@ -119,13 +116,13 @@ module _ {b : Book} {store : List ℕ} {i : ℕ} (o : OpenAt b store i) where
   own_verdict (call.sending j channel rank) e space = on_lent (λ l. send_tests l channel rank space) j (eqb-true j i e)
   own_verdict (call.empty j channel) e space = on_line (λ l. empty_tests l channel space) j (eqb-true j i e)
   own_verdict (call.arrival s) e space =
-      ap (λ (w : Owner). verdict (fit_book b ∷ roomy b (length store) ∷ ((head_tests s ++ (must (is_somebody w) NOLINE ∷ [])) ++ arrive_tests (line_of b (owner_line w)) s))) (owner s (eqb-true _ _ e))
+      ap (λ (w : Option ℕ). verdict (fit_book b ∷ roomy b (length store) ∷ ((head_tests s ++ (must (is_some w) NOLINE ∷ [])) ++ arrive_tests (line_of b (owner_line w)) s))) (owner s (eqb-true _ _ e))
       ∙ rw (o.fits, lent)
   own_verdict (call.hand_out j channel) e space = on_lent (λ l. hand_call_tests l channel space) j (eqb-true j i e)
   own_verdict (call.report j channel) e space = on_line (λ l. relay_channel_tests l channel) j (eqb-true j i e)
 
   -- what is left in the part
-  own_part_lem : (k : Call) (out : List ℕ) → verdict (own_tests k (line_of b i) (length out)) ≡ Pass → part_of b i (effect k i (line_of b i) (part_start b i) store out).store ≡ own_part k (line_of b i) (part_of b i store)
+  own_part_lem : (k : Call) (out : List ℕ) → verdict (own_tests k (line_of b i) (length out)) ≡ Ok tt → part_of b i (effect k i (line_of b i) (part_start b i) store out).store ≡ own_part k (line_of b i) (part_of b i store)
   unfolding own_tests own_part effect
   own_part_lem (call.opening j s time) out e = refl
   own_part_lem (call.closing j) out e = refl
@@ -186,7 +183,7 @@ module _ {b c : Book} {store kept : List ℕ} {i : ℕ} (p : OpenAt b store i) (
           (by_part k i (line_of b i) (part_start b i) (part_start c i) store kept out (part ∙ ap (λ (l : Line). part_at (part_start c i) (part_length l) kept) (sym line)))
 
       go : (v : Verdict) → verdict (own_tests k (line_of b i) (length out)) ≡ v → SameOnLine i (result_of k b store out) (result_of k c kept out)
-      go Pass v =
+      go (Ok tt) v =
           let d = leaves_at k b store out (line_for_lem p k e) (here ∙ v) p.shaped in
           let f = leaves_at k c kept out (line_for_lem q k same) (there ∙ v) q.shaped in
           record {
@@ -198,6 +195,6 @@ module _ {b c : Book} {store kept : List ℕ} {i : ℕ} (p : OpenAt b store i) (
                 ∙ (λ t. own_part k (line t) (part t))
                 ∙ sym (part_where k c kept out i (result_of k c kept out).store ∙ ap (part_of c i) f.store ∙ own_part_lem q k out (ap (λ (l : Line). verdict (own_tests k l (length out))) (sym line) ∙ v));
           }
-      go (Refuse r) v =
+      go (Err r) v =
           rw (did_refused k b store out (in_stages k b (length store) (length out) ∙ here ∙ v), did_refused k c kept out (in_stages k c (length kept) (length out) ∙ there ∙ v))
           (record { answer = refl; out = refl; line = line; part = part })

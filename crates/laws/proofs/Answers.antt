@@ -3,68 +3,61 @@
 use Prim.Native.Nat.{ℕ}
 use mathlib.Core.Path.{◌≡◌, refl}
 use mathlib.Core.List.{List}
-use Rattle.ground.specs.declared.Verdict.{Verdict}
-use Rattle.ground.specs.declared.Verdict.TheVariants.{Pass, Refuse}
+use Rattle.std.specs.Prelude.{Result, Ok, Err}
 use Rattle.ground.specs.Answer.{write_says}
-use Rattle.ground.specs.declared.WriteAnswer.{WriteAnswer}
-use Rattle.ground.specs.declared.WriteAnswer.TheVariants as written
 use Rattle.mode.proofs.Determine.{read_as, refused_back, one_case, first}
 use Rattle.outgoing.specs.Says.{take_says, held_says}
-use Rattle.outgoing.specs.declared.TakeAnswer.{TakeAnswer}
-use Rattle.outgoing.specs.declared.TakeAnswer.TheVariants as taken
-use Rattle.outgoing.specs.declared.HeldAnswer.{HeldAnswer}
-use Rattle.outgoing.specs.declared.HeldAnswer.TheVariants as report
 use Rattle.incoming.specs.Says.{arrive_says}
-use Rattle.incoming.specs.declared.ArriveAnswer.{ArriveAnswer}
-use Rattle.incoming.specs.declared.ArriveAnswer.TheVariants as arrived
 use Rattle.gateway.specs.Says.{open_says}
+use Rattle.ground.specs.Refusal.{Verdict}
+use Rattle.ground.specs.declared.Refusal.{Refusal}
 
 pub open_says_once : (x y : Verdict) → open_says x ≡ open_says y → x ≡ y
-open_says_once x y = one_case took Refuse open_says x y (back x) (back y)
+open_says_once x y = one_case took Err open_says x y (back x) (back y)
   where
     took : List ℕ → Verdict
-    took vs = Pass
+    took vs = Ok tt
 
-    back : (z : Verdict) → read_as took Refuse (open_says z) ≡ z
-    back Pass = refl
-    back (Refuse r) = refused_back took Refuse r
+    back : (z : Verdict) → read_as took Err (open_says z) ≡ z
+    back (Ok tt) = refl
+    back (Err r) = refused_back took Err r
 
-pub write_says_once : (x y : WriteAnswer) → write_says x ≡ write_says y → x ≡ y
-write_says_once x y = one_case took written.Refused write_says x y (back x) (back y)
+pub write_says_once : (x y : Result ℕ Refusal) → write_says x ≡ write_says y → x ≡ y
+write_says_once x y = one_case took Err write_says x y (back x) (back y)
   where
-    took : List ℕ → WriteAnswer
-    took vs = written.Wrote (first vs)
+    took : List ℕ → Result ℕ Refusal
+    took vs = Ok (first vs)
 
-    back : (z : WriteAnswer) → read_as took written.Refused (write_says z) ≡ z
-    back (written.Wrote n) = refl
-    back (written.Refused r) = refused_back took written.Refused r
+    back : (z : Result ℕ Refusal) → read_as took Err (write_says z) ≡ z
+    back (Ok n) = refl
+    back (Err r) = refused_back took Err r
 
-pub take_says_once : (x y : TakeAnswer) → take_says x ≡ take_says y → x ≡ y
-take_says_once x y = one_case took taken.Refused take_says x y (back x) (back y)
+pub take_says_once : (x y : Result ℕ Refusal) → take_says x ≡ take_says y → x ≡ y
+take_says_once x y = one_case took Err take_says x y (back x) (back y)
   where
-    took : List ℕ → TakeAnswer
-    took vs = taken.Number (first vs)
+    took : List ℕ → Result ℕ Refusal
+    took vs = Ok (first vs)
 
-    back : (z : TakeAnswer) → read_as took taken.Refused (take_says z) ≡ z
-    back (taken.Number n) = refl
-    back (taken.Refused r) = refused_back took taken.Refused r
+    back : (z : Result ℕ Refusal) → read_as took Err (take_says z) ≡ z
+    back (Ok n) = refl
+    back (Err r) = refused_back took Err r
 
-pub arrive_says_once : (x y : ArriveAnswer) → arrive_says x ≡ arrive_says y → x ≡ y
-arrive_says_once x y = one_case took arrived.Refused arrive_says x y (back x) (back y)
+pub arrive_says_once : (x y : Result ℕ Refusal) → arrive_says x ≡ arrive_says y → x ≡ y
+arrive_says_once x y = one_case took Err arrive_says x y (back x) (back y)
   where
-    took : List ℕ → ArriveAnswer
-    took vs = arrived.At (first vs)
+    took : List ℕ → Result ℕ Refusal
+    took vs = Ok (first vs)
 
-    back : (z : ArriveAnswer) → read_as took arrived.Refused (arrive_says z) ≡ z
-    back (arrived.At i) = refl
-    back (arrived.Refused r) = refused_back took arrived.Refused r
+    back : (z : Result ℕ Refusal) → read_as took Err (arrive_says z) ≡ z
+    back (Ok i) = refl
+    back (Err r) = refused_back took Err r
 
-pub held_says_once : (x y : HeldAnswer) → held_says x ≡ held_says y → x ≡ y
-held_says_once x y = one_case took report.Refused held_says x y (back x) (back y)
+pub held_says_once : (x y : Result ℕ Refusal) → held_says x ≡ held_says y → x ≡ y
+held_says_once x y = one_case took Err held_says x y (back x) (back y)
   where
-    took : List ℕ → HeldAnswer
-    took vs = report.Holds (first vs)
+    took : List ℕ → Result ℕ Refusal
+    took vs = Ok (first vs)
 
-    back : (z : HeldAnswer) → read_as took report.Refused (held_says z) ≡ z
-    back (report.Holds n) = refl
-    back (report.Refused r) = refused_back took report.Refused r
+    back : (z : Result ℕ Refusal) → read_as took Err (held_says z) ≡ z
+    back (Ok n) = refl
+    back (Err r) = refused_back took Err r

@@ -9,10 +9,9 @@ use native.Mathlib.Omega.{arith}
 use lib.Dec.{eqb}
 use lib.ListN.{length}
 use borrow.Author.Tests.{eqb-true, eqb-false}
+use Rattle.std.specs.Prelude.{Ok, Err}
 use Rattle.ground.specs.Answer.{accepted}
-use Rattle.ground.specs.Refusal.{verdict}
-use Rattle.ground.specs.declared.Verdict.{Verdict}
-use Rattle.ground.specs.declared.Verdict.TheVariants.{Pass, Refuse}
+use Rattle.ground.specs.Refusal.{Verdict, verdict}
 use Rattle.ground.proofs.Picks.{clash}
 use Rattle.ground.proofs.Either.{by_test}
 use Rattle.packet.specs.Read.{head_at}
@@ -48,18 +47,18 @@ pub record Stays (i : ℕ) (b : Book) (store : List ℕ) (d : CallResult) : Type
   pub part : part_of d.book i d.store ≡ part_of b i store
 
 -- a call that passes its tests only for another line leaves line i
-pub stays_unless : (k : Call) (b : Book) (store out : List ℕ) → BookShaped b → (i : ℕ) → (verdict (tests k b (length store) (length out)) ≡ Pass → line_for k b ≡ i → ⊥) → Stays i b store (result_of k b store out)
+pub stays_unless : (k : Call) (b : Book) (store out : List ℕ) → BookShaped b → (i : ℕ) → (verdict (tests k b (length store) (length out)) ≡ Ok tt → line_for k b ≡ i → ⊥) → Stays i b store (result_of k b store out)
 stays_unless k b store out shaped i other = go (verdict (tests k b (length store) (length out))) refl
   where
     go : (v : Verdict) → verdict (tests k b (length store) (length out)) ≡ v → Stays i b store (result_of k b store out)
-    go Pass e =
+    go (Ok tt) e =
         record { line = others_stay k b store out i (other e); part = part_where k b store out i (result_of k b store out).store ∙ parts_stay k b store out shaped i (other e) }
-    go (Refuse r) e = rw (did_refused k b store out (in_stages k b (length store) (length out) ∙ e)) (record { line = refl; part = refl })
+    go (Err r) e = rw (did_refused k b store out (in_stages k b (length store) (length out) ∙ e)) (record { line = refl; part = refl })
 
 -- A line that has the identifier, if it is open.
 module _ (b : Book) (i identifier : ℕ) (has : is_open (line_of b i) ≡ true → (line_of b i).identifier ≡ identifier) where
   -- a call that passes its tests and is not for line i is for another
-  not_for : (k : Call) (n space : ℕ) → verdict (tests k b n space) ≡ Pass → for_line i identifier k ≡ false → line_for k b ≡ i → ⊥
+  not_for : (k : Call) (n space : ℕ) → verdict (tests k b n space) ≡ Ok tt → for_line i identifier k ≡ false → line_for k b ≡ i → ⊥
   unfolding line_for tests
   not_for (call.opening j s time) n space e f q = eqb-false j i f q
   not_for (call.closing j) n space e f q = eqb-false j i f q
@@ -93,7 +92,7 @@ effect_identifier (call.hand_out j channel) i l start store out n o = (handed_li
 effect_identifier (call.report j channel) i l start store out n o = refl
 
 -- an open line is not opened again
-opens_none : (k : Call) (l : Line) (space : ℕ) → verdict (own_tests k l space) ≡ Pass → opens k ≡ false
+opens_none : (k : Call) (l : Line) (space : ℕ) → verdict (own_tests k l space) ≡ Ok tt → opens k ≡ false
 unfolding own_tests
 opens_none (call.opening j s time) l space e = absurd (let z : ◌≡◌ {A = ℕ} 0 1 = cc in omega arith)
 opens_none (call.closing j) l space e = refl
@@ -114,15 +113,15 @@ identifier_stays {b} {store} {i} o k out still =
     (λ e. ap (λ (l : Line). l.identifier) (elsewhere_stays b i (line_of b i).identifier (λ _. refl) k store out o.shaped e).line)
   where
     go : for_line i (line_of b i).identifier k ≡ true → (v : Verdict) → verdict (own_tests k (line_of b i) (length out)) ≡ v → (line_of (result_of k b store out).book i).identifier ≡ (line_of b i).identifier
-    go e Pass v =
+    go e (Ok tt) v =
         let d = leaves_at k b store out (line_for_lem o k e) (own_verdict o k e (length out) ∙ v) o.shaped in
         ap (λ (l : Line). l.identifier) d.line
         ∙ effect_identifier k i (line_of b i) _ store out (opens_none k (line_of b i) (length out) v) (ap is_open (sym d.line) ∙ still)
-    go e (Refuse r) v = ap (λ (d : CallResult). (line_of d.book i).identifier) (did_refused k b store out (in_stages k b (length store) (length out) ∙ own_verdict o k e (length out) ∙ v))
+    go e (Err r) v = ap (λ (d : CallResult). (line_of d.book i).identifier) (did_refused k b store out (in_stages k b (length store) (length out) ∙ own_verdict o k e (length out) ∙ v))
 
 -- While line i is open: a packet that has its identifier, whatever the book.
 module _ (b : Book) (shaped : BookShaped b) (i : ℕ) (small : i < 4) (opened : is_open (line_of b i) ≡ true) (s : List ℕ) (mine : (head_at s).identifier ≡ (line_of b i).identifier) (store out : List ℕ) where
-  arrives : verdict (tests (call.arrival s) b (length store) (length out)) ≡ Pass → line_for (call.arrival s) b ≡ i
+  arrives : verdict (tests (call.arrival s) b (length store) (length out)) ≡ Ok tt → line_for (call.arrival s) b ≡ i
   unfolding tests line_for
   arrives pass = ap owner_line (ap (owner_of b) mine ∙ whose_found b (addressed b (length store) s pass).book shaped i small opened)
 

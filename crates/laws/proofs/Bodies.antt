@@ -3,9 +3,9 @@
 use Prim.Native.Nat.{ℕ}
 use mathlib.Core.Path.{◌≡◌, refl, sym, ap, ◌∙◌}
 use mathlib.Core.List.{List}
+use Rattle.std.specs.Prelude.{Result}
 use Rattle.ground.specs.Refusal.{Test}
 use Rattle.ground.specs.Answer.{Writes, contents}
-use Rattle.ground.specs.declared.WriteAnswer.{WriteAnswer}
 use Rattle.packet.specs.contracts.header_length
 use Rattle.packet.proofs.header_length.Reads as header_length_reads
 use Rattle.packet.specs.contracts.Acks.header as acks_header
@@ -41,12 +41,13 @@ use Rattle.moves.proofs.ask.Reads as ask_reads
 use Rattle.moves.specs.contracts.tick
 use Rattle.moves.proofs.tick.Reads as tick_reads
 use Rattle.laws.specs.Contract.{Determined}
+use Rattle.ground.specs.declared.Refusal.{Refusal}
 
 -- two outcomes that meet a writer's contract are one, and so is what they leave in the output
-once : {ts : List Test} {octets before p q : List ℕ} (x y : WriteAnswer) → Writes ts octets before p x → Writes ts octets before q y → (x ≡ y) × (p ≡ q)
+once : {ts : List Test} {octets before p q : List ℕ} (x y : Result ℕ Refusal) → Writes ts octets before p x → Writes ts octets before q y → (x ≡ y) × (p ≡ q)
 once {octets = octets} {before = before} x y g h =
     let e : x ≡ y = g.gives.is ∙ sym h.gives.is in
-    (e, g.leaves ∙ ap (λ (w : WriteAnswer). contents w octets before) e ∙ sym h.leaves)
+    (e, g.leaves ∙ ap (λ (w : Result ℕ Refusal). contents w octets before) e ∙ sym h.leaves)
 
 -- packets
 pub header_length_determined : Determined header_length.ended header_length_reads.Learnt

@@ -5,11 +5,19 @@
 use Prim.Native.Nat.{ℕ}
 use mathlib.Core.Path.{◌≡◌, refl, sym, ap, ◌∙◌}
 use mathlib.Core.List.{List, []}
+use native.Mathlib.Omega.{arith}
+use Rattle.std.specs.Prelude.{Result, Ok, Err}
 use Rattle.ground.specs.Answer.{Answer, write_says}
+use Rattle.ground.specs.declared.Refusal.{Refusal}
+use Rattle.ground.proofs.Settled.{same_value, same_error}
 use Rattle.mode.proofs.Determine.{hear_says_once, ask_says_once, tick_says_once}
 use Rattle.book.specs.declared.Book.{Book}
-use Rattle.calls.specs.Result.{CallResult, result_with}
-use Rattle.calls.specs.declared.Written.{Written}
+use Rattle.mode.specs.Says.{hear_says, ask_says, tick_says}
+use Rattle.calls.specs.Result.{CallResult, result_with, does, answer_in, book_in}
+use Rattle.calls.specs.declared.After.{After}
+use Rattle.outgoing.specs.Says.{take_says}
+use Rattle.incoming.specs.Says.{arrive_says}
+use Rattle.gateway.specs.Says.{open_says}
 use Rattle.outgoing.specs.contracts.take
 use Rattle.outgoing.proofs.take.Reads as take_reads
 use Rattle.outgoing.specs.contracts.send
@@ -49,72 +57,73 @@ alike m n =
     let e = m ∙ sym n in
     record { answer = ap (λ (d : CallResult). d.answer) e; book = ap (λ (d : CallResult). d.book) e; store = ap (λ (d : CallResult). d.store) e; out = ap (λ (d : CallResult). d.out) e }
 
--- the calls that write into an output
-gave : (x y : Written) {s t p q : List ℕ} {e : CallResult} → result_with (write_says x.answer) x.book s p ≡ e → result_with (write_says y.answer) y.book t q ≡ e → (x ≡ y) × (p ≡ q)
-gave x y m n =
-    let e = alike m n in
-    let a = write_says_once x.answer y.answer e.answer in
-    (λ t. record { book = e.book t; answer = a t }, e.out)
+-- the book that a call left and its answer are all that it gave back
+left : {A : Type 0} (b : Book) (x y : Result (After A) Refusal) → answer_in x ≡ answer_in y → book_in b x ≡ book_in b y → x ≡ y
+left {A} b (Ok c) (Ok d) e f = λ t. Ok (record { book = f t; answer = same_value {E = Refusal} refl e t })
+left b (Ok c) (Err s) e f = absurd (let z : ◌≡◌ {A = ℕ} 0 1 = cc in omega arith)
+left b (Err r) (Ok d) e f = absurd (let z : ◌≡◌ {A = ℕ} 0 1 = cc in omega arith)
+left {A} b (Err r) (Err s) e f = ap Err (same_error {A = A} refl e)
+
+-- so what it says determines it, with what it left in what was lent
+module _ {A : Type 0} (says : Result A Refusal → Answer) (b : Book) (x y : Result (After A) Refusal) (once : says (answer_in x) ≡ says (answer_in y) → answer_in x ≡ answer_in y) where
+  gave : {s t p q : List ℕ} {e : CallResult} → does says b x s p ≡ e → does says b y t q ≡ e → (x ≡ y) × (s ≡ t) × (p ≡ q)
+  gave m n =
+      let e = alike m n in
+      (left b x y (once e.answer) e.book, e.store, e.out)
 
 pub fresh_determined : Determined fresh.ended fresh_reads.Learnt
 fresh_determined κs a x y p q m n = (m ∙ sym n, refl)
 
 pub open_determined : Determined open.ended open_reads.Learnt
 open_determined κs a x y p q m n =
-    let e = alike (m [] []) (n [] []) in
-    let z = open_says_once x.answer y.answer e.answer in
-    (λ t. record { book = e.book t; answer = z t }, refl)
+    let e = gave open_says a.0 x y (open_says_once (answer_in x) (answer_in y)) (m [] []) (n [] []) in
+    (e.0, refl)
 
 pub close_determined : Determined close.ended close_reads.Learnt
 close_determined κs a x y p q m n =
-    let e = gave x y (m []) (n []) in
-    (e.0, λ t. (tt, (tt, (e.1 t, tt))))
+    let e = gave write_says a.0 x y (write_says_once (answer_in x) (answer_in y)) (m []) (n []) in
+    (e.0, λ t. (tt, (tt, (e.2 t, tt))))
 
 pub hear_determined : Determined hear.ended hear_reads.Learnt
 hear_determined κs a x y p q m n =
-    let e = alike (m [] []) (n [] []) in
-    let z = hear_says_once x.answer y.answer e.answer in
-    (λ t. record { book = e.book t; answer = z t }, refl)
+    let e = gave hear_says a.0 x y (hear_says_once (answer_in x) (answer_in y)) (m [] []) (n [] []) in
+    (e.0, refl)
 
 pub ask_determined : Determined ask.ended ask_reads.Learnt
 ask_determined κs a x y p q m n =
-    let e = alike (m [] []) (n [] []) in
-    let z = ask_says_once x.answer y.answer e.answer in
-    (λ t. record { book = e.book t; answer = z t }, refl)
+    let e = gave ask_says a.0 x y (ask_says_once (answer_in x) (answer_in y)) (m [] []) (n [] []) in
+    (e.0, refl)
 
 -- the contract says besides that a try is one of 1 to 5: without it Audio 0 would say what Quiet says, and Audio 6 what Ended does
 pub tick_determined : Determined tick.ended tick_reads.Learnt
 tick_determined κs a x y p q m n =
-    let e = alike (m.0 [] []) (n.0 [] []) in
-    let z = tick_says_once x.answer y.answer m.1 n.1 e.answer in
-    (λ t. record { book = e.book t; answer = z t }, refl)
+    let e = gave tick_says a.0 x y (tick_says_once (answer_in x) (answer_in y) m.1 n.1) (m.0 [] []) (n.0 [] []) in
+    (e.0, refl)
 
 pub take_determined : Determined take.ended take_reads.Learnt
 take_determined κs a x y p q m n =
-    let e = alike (m []) (n []) in
-    let z = take_says_once x.answer y.answer e.answer in
-    (λ t. record { book = e.book t; answer = z t }, λ t. (tt, (e.store t, (tt, (tt, (tt, tt))))))
+    let e = gave take_says a.0 x y (take_says_once (answer_in x) (answer_in y)) (m []) (n []) in
+    (e.0, λ t. (tt, (e.1 t, (tt, (tt, (tt, tt))))))
 
 pub send_determined : Determined send.ended send_reads.Learnt
 send_determined κs a x y p q m n =
-    let e = gave x y m n in
-    (e.0, λ t. (tt, (tt, (tt, (tt, (tt, (e.1 t, tt)))))))
+    let e = gave write_says a.0 x y (write_says_once (answer_in x) (answer_in y)) m n in
+    (e.0, λ t. (tt, (tt, (tt, (tt, (tt, (e.2 t, tt)))))))
 
 pub empty_determined : Determined empty.ended empty_reads.Learnt
 empty_determined κs a x y p q m n =
-    let e = gave x y (m []) (n []) in
-    (e.0, λ t. (tt, (tt, (tt, (e.1 t, tt)))))
+    let e = gave write_says a.0 x y (write_says_once (answer_in x) (answer_in y)) (m []) (n []) in
+    (e.0, λ t. (tt, (tt, (tt, (e.2 t, tt)))))
 
 pub held_determined : Determined held.ended held_reads.Learnt
 held_determined κs a x y p q m n = (held_says_once x y (alike (m [] []) (n [] [])).answer, refl)
 
 pub arrive_determined : Determined arrive.ended arrive_reads.Learnt
 arrive_determined κs a x y p q m n =
-    let e = alike (m []) (n []) in
-    let z = arrive_says_once x.answer y.answer e.answer in
-    (λ t. record { book = e.book t; answer = z t }, λ t. (tt, (e.store t, (tt, tt))))
+    let e = gave arrive_says a.0 x y (arrive_says_once (answer_in x) (answer_in y)) (m []) (n []) in
+    (e.0, λ t. (tt, (e.1 t, (tt, tt))))
 
 pub hand_out_determined : Determined hand_out.ended hand_out_reads.Learnt
 hand_out_determined κs a x y p q m n =
-    let e = gave x y m n in
-    (e.0, λ t. (tt, (tt, (tt, (tt, (e.1 t, tt))))))
+    let e = gave write_says a.0 x y (write_says_once (answer_in x) (answer_in y)) m n in
+    (e.0, λ t. (tt, (tt, (tt, (tt, (e.2 t, tt))))))

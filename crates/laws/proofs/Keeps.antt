@@ -7,7 +7,6 @@ use mathlib.Core.List.{List}
 use lib.ListN.{length}
 use borrow.Author.Tests.{eqb-true, not-true}
 use Rattle.ground.specs.Refusal.{verdict}
-use Rattle.ground.specs.declared.Verdict.TheVariants.{Pass}
 use Rattle.ground.proofs.Settled.{settled_by}
 use Rattle.ground.proofs.Verdicts.{passed}
 use Rattle.mode.specs.Moved.{channels_for}
@@ -30,6 +29,7 @@ use Rattle.store.specs.Store.{slot_at}
 use Rattle.store.specs.declared.Way.TheVariants.{Sending}
 use Rattle.sending.specs.Sending.{next_place}
 use lib.Seq.{length-sets}
+use Rattle.std.specs.Prelude.{Ok}
 use Rattle.relay.specs.RelayTests.{relay_channel_tests}
 use Rattle.relay.specs.Take.{take_call_tests, took_line}
 use Rattle.relay.specs.HandOut.{hand_call_tests, handed_line}
@@ -71,13 +71,13 @@ moved_keeps l a opened fits shaped =
     )
 
 -- so do the calls that write a packet, in modem relay
-sent_keeps : (l : Line) (channel rank space : ℕ) → line_fits l ≡ true → Shaped l → verdict (send_tests l channel rank space) ≡ Pass → (line_fits (wrote_line l) ≡ true) × Shaped (wrote_line l)
+sent_keeps : (l : Line) (channel rank space : ℕ) → line_fits l ≡ true → Shaped l → verdict (send_tests l channel rank space) ≡ Ok tt → (line_fits (wrote_line l) ≡ true) × Shaped (wrote_line l)
 unfolding send_tests relay_channel_tests
 sent_keeps l channel rank space fits shaped e =
     let t = passed (send_tests l channel rank space) e in
     wrote_line_keeps l t.0 fits (eqb-true _ _ t.1.0) shaped
 
-empty_keeps : (l : Line) (channel space : ℕ) → line_fits l ≡ true → Shaped l → verdict (empty_tests l channel space) ≡ Pass → (line_fits (wrote_line l) ≡ true) × Shaped (wrote_line l)
+empty_keeps : (l : Line) (channel space : ℕ) → line_fits l ≡ true → Shaped l → verdict (empty_tests l channel space) ≡ Ok tt → (line_fits (wrote_line l) ≡ true) × Shaped (wrote_line l)
 unfolding empty_tests
 empty_keeps l channel space fits shaped e =
     let t = passed (empty_tests l channel space) e in
@@ -89,7 +89,7 @@ module _ (b : Book) (fits : book_fits b ≡ true) (shaped : BookShaped b) where
   put_keeps i l same k = (with_line_keeps b fits i l k.0 same, with_line_shaped b shaped i l k.1)
 
   -- what an accepted call leaves, call by call
-  done_keeps : (c : Call) (store out : List ℕ) → verdict (tests c b (length store) (length out)) ≡ Pass → Passes (accepted_result c b store out).book
+  done_keeps : (c : Call) (store out : List ℕ) → verdict (tests c b (length store) (length out)) ≡ Ok tt → Passes (accepted_result c b store out).book
   unfolding tests line_for effect accepted_result open_tests close_tests mode_tests
   done_keeps (call.opening i s time) store out e =
       let p = line_passed b i (open_tests b i s) e in

@@ -10,10 +10,10 @@ use native.Mathlib.Nat.{zero-add}
 use lib.Dec.{eqb}
 use lib.ListN.{length, drop, length-take}
 use borrow.Author.Tests.{eq-eqb, ne_eqb, le-leb, not-true}
+use Rattle.std.specs.Prelude.{Option, Some, None, Ok, Err, is_some}
 use Rattle.ground.specs.Answer.{refused}
 use Rattle.ground.specs.Refusal.{verdict}
 use Rattle.ground.specs.declared.Refusal.TheVariants.{NOLINE}
-use Rattle.ground.specs.declared.Verdict.TheVariants.{Pass, Refuse}
 use Rattle.ground.proofs.Picks.{both_true, clash}
 use Rattle.ground.proofs.Either.{or_true}
 use Rattle.ground.proofs.Verdicts.{passed, passes}
@@ -29,10 +29,8 @@ use Rattle.book.specs.Closing.{closed_at}
 use Rattle.book.specs.Parts.{store_length}
 use Rattle.book.specs.Shape.{BookShaped}
 use Rattle.book.specs.declared.Book.{Book}
-use Rattle.book.specs.declared.Owner.{Owner}
-use Rattle.book.specs.declared.Owner.TheVariants.{At, Nobody}
 use Rattle.book.proofs.Facts.{book_ok}
-use Rattle.book.proofs.OneOwner.{somebody, open_somebody, whose_at, never_resting}
+use Rattle.book.proofs.OneOwner.{open_somebody, whose_at, never_resting}
 use Rattle.book.proofs.OtherLines.{closed_same, closed_other}
 use Rattle.calls.specs.Call as call
 use Rattle.calls.specs.Order.{line_for, packet_line}
@@ -54,21 +52,21 @@ module _ (b : Book) (k : Passes b) (x : ℕ) (rest : member x (resting_of b) ≡
   not_open : (j : ℕ) → j < 4 → is_open (line_of b j) ≡ true → (line_of b j).identifier ≡ x → ⊥
   not_open j h o e = clash (sym (never_resting b k.0 k.1 j h o) ∙ ap (λ (y : ℕ). member y (resting_of b)) e ∙ rest)
 
-  nobody : owner_of b x ≡ Nobody
+  nobody : owner_of b x ≡ None
   nobody = go (owner_of b x) refl
     where
-      go : (w : Owner) → owner_of b x ≡ w → w ≡ Nobody
-      go Nobody e = refl
-      go (At j) e = let w = whose_at b x j e in absurd (not_open j (omega (arith, w.0, k.1.lines)) w.1 w.2)
+      go : (w : Option ℕ) → owner_of b x ≡ w → w ≡ None
+      go None e = refl
+      go (Some j) e = let w = whose_at b x j e in absurd (not_open j (omega (arith, w.0, k.1.lines)) w.1 w.2)
 
   -- a packet with it is NOLINE
-  resting_noline : (s : List ℕ) → (head_at s).identifier ≡ x → verdict (head_tests s) ≡ Pass → (store out : List ℕ) → store_length b ≤ length store
+  resting_noline : (s : List ℕ) → (head_at s).identifier ≡ x → verdict (head_tests s) ≡ Ok tt → (store out : List ℕ) → store_length b ≤ length store
       → result_of (call.arrival s) b store out ≡ result_with (refused NOLINE) b store out
   unfolding tests arrival_tests address_tests
   resting_noline s e plain store out long =
       let h = passed (head_tests s) plain in
-      let none : packet_line b s ≡ Nobody = ap (owner_of b) e ∙ nobody in
-      let v : verdict (tests (call.arrival s) b (length store) (length out)) ≡ Refuse NOLINE = rw (k.0, le-leb _ _ long, h.0, h.1.0, none) in
+      let none : packet_line b s ≡ None = ap (owner_of b) e ∙ nobody in
+      let v : verdict (tests (call.arrival s) b (length store) (length out)) ≡ Err NOLINE = rw (k.0, le-leb _ _ long, h.0, h.1.0, none) in
       did_refused (call.arrival s) b store out (in_stages (call.arrival s) b (length store) (length out) ∙ v)
 
   -- and no line can be opened with it
@@ -113,7 +111,7 @@ module _ (b : Book) (shaped : BookShaped b) (i : ℕ) (store out : List ℕ) (cl
     still = rests_there (since ts few)
 
     -- THE PROMISE: until sixteen further lines were closed, whatever is called meanwhile, a packet with the identifier of the closed line is NOLINE and changes nothing.
-    pub late_packet_refused : (s : List ℕ) → (head_at s).identifier ≡ x → verdict (head_tests s) ≡ Pass → (lent written : List ℕ) → store_length (reach then ts) ≤ length lent
+    pub late_packet_refused : (s : List ℕ) → (head_at s).identifier ≡ x → verdict (head_tests s) ≡ Ok tt → (lent written : List ℕ) → store_length (reach then ts) ≤ length lent
         → result_of (call.arrival s) (reach then ts) lent written ≡ result_with (refused NOLINE) (reach then ts) lent written
     late_packet_refused = resting_noline (reach then ts) (keeps ts) x still
 
@@ -160,12 +158,12 @@ module _ (b : Book) (shaped : BookShaped b) (i : ℕ) (store out : List ℕ) (cl
             let same : line_of after n ≡ line_of before n = ap (λ (a : Book). line_of a n) leaves ∙ closed_other before j n z in
             not_there n h (ap is_open (sym same) ∙ o) (ap (λ (l : Line). l.identifier) (sym same) ∙ q)
 
-    off : owner_of after x ≡ Nobody
+    off : owner_of after x ≡ None
     off = go (owner_of after x) refl
       where
-        go : (w : Owner) → owner_of after x ≡ w → w ≡ Nobody
-        go Nobody q = refl
-        go (At n) q = let w = whose_at after x n q in absurd (not_after n (omega (arith, w.0, after_passes.1.lines)) w.1 w.2)
+        go : (w : Option ℕ) → owner_of after x ≡ w → w ≡ None
+        go None q = refl
+        go (Some n) q = let w = whose_at after x n q in absurd (not_after n (omega (arith, w.0, after_passes.1.lines)) w.1 w.2)
 
     -- and it no longer rests
     gone : member x (resting_of after) ≡ false
@@ -183,7 +181,7 @@ module _ (b : Book) (shaped : BookShaped b) (i : ℕ) (store out : List ℕ) (cl
 
     not_open_after : member x (open_in after.lines) ≡ false
     unfolding open_in owner_from
-    not_open_after = open_somebody identifier_of 0 after.lines x ∙ ap somebody off
+    not_open_after = open_somebody identifier_of 0 after.lines x ∙ ap is_some off
 
     -- THE PROMISE: with the sixteenth closing after its own the identifier is free, and a closed line can be opened with it.
     pub free_with_sixteenth : taken after x ≡ false

@@ -6,9 +6,9 @@ use mathlib.Core.Bool.{Bool, true, false}
 use mathlib.Core.List.{List}
 use native.Mathlib.Omega.{arith}
 use lib.ListN.{length}
+use Rattle.std.specs.Prelude.{Ok}
 use Rattle.line.specs.Line.{is_open}
 use Rattle.ground.specs.Refusal.{verdict}
-use Rattle.ground.specs.declared.Verdict.TheVariants.{Pass}
 use Rattle.ground.proofs.Picks.{clash}
 use Rattle.ground.proofs.Verdicts.{passed}
 use Rattle.packet.specs.Read.{head_at}
@@ -30,11 +30,11 @@ use Rattle.calls.proofs.FirstTests.{OnLine, line_passed, both_passed}
 use Rattle.incoming.proofs.Passing.{address_owner, addressed}
 
 -- a packet finds its line, which is open, by its identifier
-pub pass_address : (b : Book) (s : List ℕ) → verdict (address_tests b s) ≡ Pass → is_open (line_of b (owner_line (packet_line b s))) ≡ true
+pub pass_address : (b : Book) (s : List ℕ) → verdict (address_tests b s) ≡ Ok tt → is_open (line_of b (owner_line (packet_line b s))) ≡ true
 pass_address b s e = (whose_at b (head_at s).identifier (owner_line (packet_line b s)) (address_owner b s e)).1
 
 -- one of the four, and fits
-pub pass_on : (c : Call) (b : Book) (n space : ℕ) → verdict (tests c b n space) ≡ Pass → BookShaped b → OnLine b (line_for c b)
+pub pass_on : (c : Call) (b : Book) (n space : ℕ) → verdict (tests c b n space) ≡ Ok tt → BookShaped b → OnLine b (line_for c b)
 unfolding tests line_for
 pass_on (call.opening i s time) b n space e k = (line_passed b i (open_tests b i s) e).0
 pass_on (call.closing i) b n space e k = (line_passed b i (close_tests (line_of b i) space) e).0
@@ -48,7 +48,7 @@ pass_on (call.arrival s) b n space e k =
 pass_on (call.hand_out i channel) b n space e k = (both_passed b n i (hand_call_tests (line_of b i) channel space) e).0
 pass_on (call.report i channel) b n space e k = (line_passed b i (relay_channel_tests (line_of b i) channel) e).0
 
-pub line_number_lem : (c : Call) (b : Book) (store out : List ℕ) → verdict (tests c b (length store) (length out)) ≡ Pass → BookShaped b → line_for c b < 4
+pub line_number_lem : (c : Call) (b : Book) (store out : List ℕ) → verdict (tests c b (length store) (length out)) ≡ Ok tt → BookShaped b → line_for c b < 4
 line_number_lem c b store out e k = (pass_on c b (length store) (length out) e k).number
 
 -- and it is open, unless the call opens it
@@ -63,7 +63,7 @@ opens (call.arrival s) = false
 opens (call.hand_out i channel) = false
 opens (call.report i channel) = false
 
-pub pass_open : (c : Call) (b : Book) (n space : ℕ) → verdict (tests c b n space) ≡ Pass → opens c ≡ false → is_open (line_of b (line_for c b)) ≡ true
+pub pass_open : (c : Call) (b : Book) (n space : ℕ) → verdict (tests c b n space) ≡ Ok tt → opens c ≡ false → is_open (line_of b (line_for c b)) ≡ true
 unfolding tests line_for close_tests mode_tests relay_channel_tests take_call_tests send_tests empty_tests hand_call_tests
 pass_open (call.opening i s time) b n space e o = clash (sym o)
 pass_open (call.closing i) b n space e o = (passed (close_tests (line_of b i) space) (line_passed b i (close_tests (line_of b i) space) e).1).0

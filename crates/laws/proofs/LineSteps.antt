@@ -93,13 +93,13 @@ pub writing_may_write_empty_determined : Determined writing_may_write_empty.ende
 writing_may_write_empty_determined κs a x y p q m n = (m ∙ sym n, refl)
 
 pub writing_write_empty_determined : Determined writing_write_empty.ended writing_write_empty_reads.Learnt
-writing_write_empty_determined κs a x y p q m n = (λ t. record { line = (m.0 ∙ sym n.0) t; answer = (m.1 ∙ sym n.1) t }, λ t. (tt, (tt, ((m.2 ∙ sym n.2) t, tt))))
+writing_write_empty_determined κs a x y p q m n = (λ t. record { line = (m.0 ∙ sym n.0) t; size = (m.1 ∙ sym n.1) t }, λ t. (tt, (tt, ((m.2 ∙ sym n.2) t, tt))))
 
 pub writing_may_send_determined : Determined writing_may_send.ended writing_may_send_reads.Learnt
 writing_may_send_determined κs a x y p q m n = (m ∙ sym n, refl)
 
 pub writing_send_determined : Determined writing_send.ended writing_send_reads.Learnt
-writing_send_determined κs a x y p q m n = (λ t. record { line = (m.0 ∙ sym n.0) t; answer = (m.1 ∙ sym n.1) t }, λ t. (tt, (tt, (tt, (tt, ((m.2 ∙ sym n.2) t, tt))))))
+writing_send_determined κs a x y p q m n = (λ t. record { line = (m.0 ∙ sym n.0) t; size = (m.1 ∙ sym n.1) t }, λ t. (tt, (tt, (tt, (tt, ((m.2 ∙ sym n.2) t, tt))))))
 
 -- arriving
 pub arriving_may_arrive_determined : Determined arriving_may_arrive.ended arriving_may_arrive_reads.Learnt

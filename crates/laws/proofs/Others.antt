@@ -6,8 +6,8 @@ use mathlib.Core.List.{List}
 use mathlib.Core.Logic.{◌⊎◌, inl, inr, ⊎_elim}
 use native.Mathlib.Omega.{arith}
 use lib.ListN.{length, drop}
+use Rattle.std.specs.Prelude.{Ok}
 use Rattle.ground.specs.Refusal.{verdict}
-use Rattle.ground.specs.declared.Verdict.TheVariants.{Pass}
 use Rattle.ground.proofs.Picks.{pick_by}
 use Rattle.ground.proofs.Settled.{settled_by}
 use Rattle.line.specs.Part.{part_length}
@@ -54,7 +54,7 @@ pub record PutIn (b : Book) (i : ℕ) (store after : List ℕ) : Type 0 where
 abbrev pub Puts : Book → ℕ → List ℕ → List ℕ → Type 0
 Puts b i store after = (after ≡ store) ⊎ PutIn b i store after
 
-pub puts : (c : Call) (b : Book) (store out : List ℕ) → verdict (tests c b (length store) (length out)) ≡ Pass → BookShaped b
+pub puts : (c : Call) (b : Book) (store out : List ℕ) → verdict (tests c b (length store) (length out)) ≡ Ok tt → BookShaped b
     → Puts b (line_for c b) store (effect c (line_for c b) (line_of b (line_for c b)) (part_start b (line_for c b)) store out).store
 unfolding tests line_for effect
 puts (call.opening i s time) b store out e k = inl refl

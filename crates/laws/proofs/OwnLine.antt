@@ -6,11 +6,10 @@ use mathlib.Core.Bool.{true}
 use mathlib.Core.List.{List}
 use native.Mathlib.Omega.{arith}
 use lib.ListN.{length}
+use Rattle.std.specs.Prelude.{Ok}
 use Rattle.ground.specs.Pick.{pick}
 use Rattle.ground.specs.Answer.{accepted}
-use Rattle.ground.specs.Refusal.{verdict}
-use Rattle.ground.specs.declared.Verdict.{Verdict}
-use Rattle.ground.specs.declared.Verdict.TheVariants.{Pass}
+use Rattle.ground.specs.Refusal.{Verdict, verdict}
 use Rattle.ground.proofs.Numbers.{number_some}
 use Rattle.ground.proofs.Picks.{pick_by, clash}
 use Rattle.ground.proofs.Settled.{settled_by}
@@ -53,11 +52,11 @@ module _ (c : Call) (b : Book) (store out : List ℕ) where
   own = effect c (line_for c b) (line_of b (line_for c b)) (part_start b (line_for c b)) store out
 
   -- the answer's number is 0 exactly if all tests pass
-  pub accepted_passes : (result_of c b store out).answer.number ≡ 0 → its ≡ Pass
+  pub accepted_passes : (result_of c b store out).answer.number ≡ 0 → its ≡ Ok tt
   unfolding result_of
-  accepted_passes = settled_by (λ (d : CallResult). d.answer.number ≡ 0 → its ≡ Pass) (verdict (order c b (length store) (length out))) (λ r e z. absurd (omega (arith, number_some r))) (λ e z. sym (in_stages c b (length store) (length out)) ∙ e)
+  accepted_passes = settled_by (λ (d : CallResult). d.answer.number ≡ 0 → its ≡ Ok tt) (verdict (order c b (length store) (length out))) (λ r e z. absurd (omega (arith, number_some r))) (λ e z. sym (in_stages c b (length store) (length out)) ∙ e)
 
-  module _ (pass : its ≡ Pass) where
+  module _ (pass : its ≡ Ok tt) where
     abbrev is_done : result_of c b store out ≡ accepted_result c b store out
     is_done = result_accepted c b store out (in_stages c b (length store) (length out) ∙ pass)
 
@@ -96,7 +95,7 @@ pub record Leaves (c : Call) (b : Book) (s o : List ℕ) (i : ℕ) : Type 0 wher
   pub store : (result_of c b s o).store ≡ (effect c i (line_of b i) (part_start b i) s o).store
   pub out : (result_of c b s o).out ≡ (effect c i (line_of b i) (part_start b i) s o).out
 
-pub leaves_at : (c : Call) (b : Book) (store out : List ℕ) {i : ℕ} → line_for c b ≡ i → verdict (tests c b (length store) (length out)) ≡ Pass → BookShaped b → Leaves c b store out i
+pub leaves_at : (c : Call) (b : Book) (store out : List ℕ) {i : ℕ} → line_for c b ≡ i → verdict (tests c b (length store) (length out)) ≡ Ok tt → BookShaped b → Leaves c b store out i
 unfolding accepted_result
 leaves_at c b store out mine pass k =
     subst (Leaves c b store out) mine (record {

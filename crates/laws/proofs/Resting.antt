@@ -8,10 +8,9 @@ use native.Mathlib.Omega.{arith}
 use lib.ListN.{length, drop, length-append}
 use lib.Seq.{drop-append-le}
 use borrow.Author.Tests.{eqb-true, eq-eqb}
+use Rattle.std.specs.Prelude.{Ok, Err}
 use Rattle.ground.specs.Pick.{pick}
-use Rattle.ground.specs.Refusal.{verdict}
-use Rattle.ground.specs.declared.Verdict.{Verdict}
-use Rattle.ground.specs.declared.Verdict.TheVariants.{Pass, Refuse}
+use Rattle.ground.specs.Refusal.{Verdict, verdict}
 use Rattle.ground.proofs.Picks.{both_true}
 use Rattle.ground.proofs.Either.{or_true}
 use Rattle.owed.specs.Owed.{member}
@@ -109,14 +108,14 @@ module _ (b : Book) (t : Turn) where
   its = verdict (tests t.call b (length t.store) (length t.out))
 
   -- the book that a turn leaves which passes its tests
-  left : its ≡ Pass → (turned b t).book ≡ pick (is_closing t.call) (closed_at b i) (with_line b i (own t.call b t.store t.out).line)
+  left : its ≡ Ok tt → (turned b t).book ≡ pick (is_closing t.call) (closed_at b i) (with_line b i (own t.call b t.store t.out).line)
   left pass =
       own_book t.call b t.store t.out pass
       ∙ ap (λ (c : Bool). pick c (closed_at b i) (with_line b i (own t.call b t.store t.out).line)) (rests_effect t.call i (line_of b i) (part_start b i) t.store t.out)
 
   -- a turn that closes a line
   module _ (e : closes b t ≡ true) where
-    pub closing_passes : its ≡ Pass
+    pub closing_passes : its ≡ Ok tt
     closing_passes = accepted_passes t.call b t.store t.out (eqb-true _ _ (both_true (is_closing t.call) _ e).1)
 
     pub closing_leaves : (turned b t).book ≡ closed_at b i
@@ -139,10 +138,10 @@ module _ (b : Book) (t : Turn) where
       neither false p q = refl
 
       go : (v : Verdict) → its ≡ v → resting_of (turned b t).book ≡ resting_of b
-      go Pass p =
+      go (Ok tt) p =
           let none : is_closing t.call ≡ false = neither (is_closing t.call) (eq-eqb _ 0 (passes_accepted t.call b t.store t.out p)) e in
           ap resting_of (left p ∙ ap (λ (c : Bool). pick c (closed_at b i) (with_line b i (own t.call b t.store t.out).line)) none)
-      go (Refuse r) p = ap (λ (d : CallResult). resting_of d.book) (did_refused t.call b t.store t.out (in_stages t.call b (length t.store) (length t.out) ∙ p))
+      go (Err r) p = ap (λ (d : CallResult). resting_of d.book) (did_refused t.call b t.store t.out (in_stages t.call b (length t.store) (length t.out) ∙ p))
 
 -- Whatever is called, an identifier rests until sixteen have been closed after it.
 pub rests_on : (ts : List Turn) (b : Book) (x n : ℕ) → RestsBefore x n (resting_of b) → n + closings b ts < 16 → RestsBefore x (n + closings b ts) (resting_of (reach b ts))

@@ -2,8 +2,8 @@
 -- handed. A caller of the library does not call them.
 -- Assumes nothing.
 use mathlib.Core.Path.{refl, sym, ◌∙◌}
-use Rattle.ground.specs.contracts.number
-use Rattle.ground.proofs.number.Reads as number_reads
+use Rattle.ground.specs.contracts.U8FromRefusal.from as number
+use Rattle.ground.proofs.U8FromRefusal.from.Reads as number_reads
 use Rattle.field.specs.contracts.octet_at
 use Rattle.field.proofs.octet_at.Reads as octet_at_reads
 use Rattle.field.specs.contracts.word_at

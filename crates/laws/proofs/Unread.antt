@@ -8,12 +8,11 @@ use native.Mathlib.Decide.{ℕ_discrete}
 use lib.Dec.{eqb, leb}
 use lib.ListN.{length, get_or, set, drop}
 use lib.Seq.{set-set, set_comm}
+use Rattle.std.specs.Prelude.{Option, Ok, Err, is_some}
 use Rattle.ground.specs.Pick.{pick}
-use Rattle.ground.specs.Refusal.{Test, must, verdict}
+use Rattle.ground.specs.Refusal.{Verdict, Test, must, verdict}
 use Rattle.ground.specs.Answer.{Answer, accepted}
 use Rattle.ground.specs.declared.Refusal.TheVariants.{NOLINE, ROOM, TAKEN, RANGE, BOOK}
-use Rattle.ground.specs.declared.Verdict.{Verdict}
-use Rattle.ground.specs.declared.Verdict.TheVariants.{Pass, Refuse}
 use Rattle.ground.proofs.Picks.{clash}
 use Rattle.ground.proofs.Either.{by_test}
 use Rattle.ground.proofs.Verdicts.{verdict_stop}
@@ -34,12 +33,11 @@ use Rattle.book.specs.Closing.{closed_at}
 use Rattle.book.specs.Parts.{part_start}
 use Rattle.book.specs.declared.Book.{Book}
 use Rattle.book.proofs.Parts.{starts_same}
-use Rattle.book.specs.declared.Owner.{Owner}
 use Rattle.book.proofs.OtherLines.{line_other}
 use Rattle.book.proofs.Unread.{closed_unread, taken_unread, whose_unread}
 use Rattle.calls.specs.Call.{Call}
 use Rattle.calls.specs.Call as call
-use Rattle.calls.specs.Order.{line_for, packet_line, is_somebody, owner_line}
+use Rattle.calls.specs.Order.{line_for, packet_line, owner_line}
 use Rattle.calls.specs.Stages.{tests, fit_book, roomy, line_number, must_be_open, open_tests, close_tests, mode_tests, address_tests, arrival_tests}
 use Rattle.calls.specs.Result.{CallResult, Effect, result_with, result_of, accepted_result, effect}
 use Rattle.calls.proofs.OrderStages.{in_stages}
@@ -138,11 +136,11 @@ module _ (b : Book) (i : ℕ) (o : (line_of b i).opened ≡ 0) (m : Line) (c : m
 
   on_line_same : (j : ℕ) (f : Line → List Test)
       → verdict (fit_book b ∷ line_number j ∷ must_be_open (line_of b j) ∷ f (line_of b j)) ≡ verdict (fit_book other ∷ line_number j ∷ must_be_open (line_of other j) ∷ f (line_of other j))
-  on_line_same j f = λ t. pick (fits_same t) (pick (leb j 3) (asks_same j f t) (Refuse RANGE)) (Refuse BOOK)
+  on_line_same j f = λ t. pick (fits_same t) (pick (leb j 3) (asks_same j f t) (Err RANGE)) (Err BOOK)
 
   on_lent_same : (n j : ℕ) (f : Line → List Test)
       → verdict (fit_book b ∷ roomy b n ∷ line_number j ∷ must_be_open (line_of b j) ∷ f (line_of b j)) ≡ verdict (fit_book other ∷ roomy other n ∷ line_number j ∷ must_be_open (line_of other j) ∷ f (line_of other j))
-  on_lent_same n j f = λ t. pick (fits_same t) (pick (leb (starts_alike 4 t) n) (pick (leb j 3) (asks_same j f t) (Refuse RANGE)) (Refuse ROOM)) (Refuse BOOK)
+  on_lent_same n j f = λ t. pick (fits_same t) (pick (leb (starts_alike 4 t) n) (pick (leb j 3) (asks_same j f t) (Err RANGE)) (Err ROOM)) (Err BOOK)
 
   opening_same : (j : ℕ) (s : Settings) → verdict (fit_book b ∷ line_number j ∷ open_tests b j s) ≡ verdict (fit_book other ∷ line_number j ∷ open_tests other j s)
   unfolding open_tests
@@ -156,7 +154,7 @@ module _ (b : Book) (i : ℕ) (o : (line_of b i).opened ≡ 0) (m : Line) (c : m
 
   address_same : (s : List ℕ) → address_tests b s ≡ address_tests other s
   unfolding address_tests
-  address_same s = ap (λ (w : Owner). head_tests s ++ (must (is_somebody w) NOLINE ∷ [])) (finds_same s)
+  address_same s = ap (λ (w : Option ℕ). head_tests s ++ (must (is_some w) NOLINE ∷ [])) (finds_same s)
 
   arrival_same : (s : List ℕ) → verdict (arrival_tests b s) ≡ verdict (arrival_tests other s)
   unfolding arrival_tests
@@ -169,10 +167,10 @@ module _ (b : Book) (i : ℕ) (o : (line_of b i).opened ≡ 0) (m : Line) (c : m
       there = line_of other (owner_line (packet_line other s))
 
       go : (v : Verdict) → verdict (address_tests b s) ≡ v → verdict (address_tests b s ++ arrive_tests here s) ≡ verdict (address_tests other s ++ arrive_tests there s)
-      go Pass e =
-          let same : here ≡ there = open_same (owner_line (packet_line b s)) (pass_address b s e) ∙ ap (λ (w : Owner). line_of other (owner_line w)) (finds_same s) in
+      go (Ok tt) e =
+          let same : here ≡ there = open_same (owner_line (packet_line b s)) (pass_address b s e) ∙ ap (λ (w : Option ℕ). line_of other (owner_line w)) (finds_same s) in
           λ t. verdict (address_same s t ++ arrive_tests (same t) s)
-      go (Refuse r) e =
+      go (Err r) e =
           verdict_stop (address_tests b s) (arrive_tests here s) e
           ∙ sym (verdict_stop (address_tests other s) (arrive_tests there s) (ap verdict (sym (address_same s)) ∙ e))
 
@@ -185,7 +183,7 @@ module _ (b : Book) (i : ℕ) (o : (line_of b i).opened ≡ 0) (m : Line) (c : m
   verdict_same (call.taking j channel message) n space = on_lent_same n j (λ l. drop 1 (take_call_tests l channel (length message)))
   verdict_same (call.sending j channel rank) n space = on_lent_same n j (λ l. drop 1 (send_tests l channel rank space))
   verdict_same (call.empty j channel) n space = on_line_same j (λ l. drop 1 (empty_tests l channel space))
-  verdict_same (call.arrival s) n space = λ t. pick (fits_same t) (pick (leb (starts_alike 4 t) n) (arrival_same s t) (Refuse ROOM)) (Refuse BOOK)
+  verdict_same (call.arrival s) n space = λ t. pick (fits_same t) (pick (leb (starts_alike 4 t) n) (arrival_same s t) (Err ROOM)) (Err BOOK)
   verdict_same (call.hand_out j channel) n space = on_lent_same n j (λ l. drop 1 (hand_call_tests l channel space))
   verdict_same (call.report j channel) n space = on_line_same j (λ l. drop 1 (relay_channel_tests l channel))
 
@@ -202,7 +200,7 @@ module _ (b : Book) (i : ℕ) (o : (line_of b i).opened ≡ 0) (m : Line) (c : m
   line_same (call.hand_out j channel) = refl
   line_same (call.report j channel) = refl
 
-  effect_same : (k : Call) (store out : List ℕ) → verdict (tests k b (length store) (length out)) ≡ Pass
+  effect_same : (k : Call) (store out : List ℕ) → verdict (tests k b (length store) (length out)) ≡ Ok tt
       → effect k (line_for k b) (line_of b (line_for k b)) (part_start b (line_for k b)) store out ≡ effect k (line_for k b) (line_of other (line_for k b)) (part_start other (line_for k b)) store out
   effect_same k store out e =
       let j = line_for k b in
@@ -210,7 +208,7 @@ module _ (b : Book) (i : ℕ) (o : (line_of b i).opened ≡ 0) (m : Line) (c : m
       (λ p. opening_whole k p j (line_of b j) (line_of other j) (part_start b j) (part_start other j) store out)
       (λ p. λ t. effect k j (open_same j (pass_open k b (length store) (length out) e p) t) (starts_alike j t) store out)
 
-  done_same : (k : Call) (store out : List ℕ) → verdict (tests k b (length store) (length out)) ≡ Pass → SameDid i (accepted_result k b store out) (accepted_result k other store out)
+  done_same : (k : Call) (store out : List ℕ) → verdict (tests k b (length store) (length out)) ≡ Ok tt → SameDid i (accepted_result k b store out) (accepted_result k other store out)
   unfolding accepted_result closed_at
   done_same k store out e =
       subst (SameDid i (leaves b j its))
@@ -236,8 +234,8 @@ module _ (b : Book) (i : ℕ) (o : (line_of b i).opened ≡ 0) (m : Line) (c : m
   did_same k store out = go (verdict (tests k b (length store) (length out))) refl
     where
       go : (v : Verdict) → verdict (tests k b (length store) (length out)) ≡ v → SameDid i (result_of k b store out) (result_of k other store out)
-      go Pass e = rw (result_accepted k b store out (in_stages k b (length store) (length out) ∙ e), result_accepted k other store out (in_stages k other (length store) (length out) ∙ sym (verdict_same k (length store) (length out)) ∙ e)) (done_same k store out e)
-      go (Refuse r) e =
+      go (Ok tt) e = rw (result_accepted k b store out (in_stages k b (length store) (length out) ∙ e), result_accepted k other store out (in_stages k other (length store) (length out) ∙ sym (verdict_same k (length store) (length out)) ∙ e)) (done_same k store out e)
+      go (Err r) e =
           rw (did_refused k b store out (in_stages k b (length store) (length out) ∙ e), did_refused k other store out (in_stages k other (length store) (length out) ∙ sym (verdict_same k (length store) (length out)) ∙ e))
           (record { answer = refl; store = refl; out = refl; book = sym (put_twice b i m closed_line) })
 

@@ -6,10 +6,12 @@ use mathlib.Core.List.{List, [], ◌∷◌, ◌++◌, append-nil, append_assoc}
 use native.Mathlib.Omega.{arith}
 use lib.ListN.{take}
 use lib.Seq.{take_all}
+use Rattle.std.specs.Prelude.{Ok}
 use Rattle.ground.specs.Refusal.{verdict}
 use Rattle.ground.proofs.Settled.{settled_by}
 use Rattle.mode.specs.declared.Modes.{Modes}
-use Rattle.mode.specs.declared.TickStep.{TickStep}
+use Rattle.mode.specs.declared.Due.{Due}
+use Rattle.mode.specs.declared.Step.{Step}
 use Rattle.mode.specs.Moved.{moved, trying}
 use Rattle.mode.specs.Recovery.{tick_tests, tick_step}
 use Rattle.mode.specs.Acts.{Act, hear, ask, tick, after, run, called_by, called, called_in, NoAudio, NoneAudio}
@@ -38,10 +40,10 @@ none_called n = append-nil (take n five)
 ticked_counts : (l : Modes) (time : ℕ) → Counts l.tries (called_by (tick_step l time).answer) (tick_step l time).modes.tries
 unfolding tick_step moved trying
 ticked_counts l time =
-    settled_by (λ (o : TickStep). Counts l.tries (called_by o.answer) o.modes.tries) (verdict (tick_tests l time))
+    settled_by (λ (o : Step Due). Counts l.tries (called_by o.answer) o.modes.tries) (verdict (tick_tests l time))
     (λ r e. none_called l.tries)
     (λ e.
-    tick_cases (λ t n. Counts l.tries (called_by t) n.tries) l time
+    tick_cases (λ t n. Counts l.tries (called_by (Ok t)) n.tries) l time
     (λ d r. none_called l.tries)
     (λ o. none_called l.tries)
     (λ z d w. rw z)

@@ -8,19 +8,17 @@ use native.Mathlib.Omega.{arith}
 use lib.Dec.{eqb}
 use lib.ListN.{get_or}
 use borrow.Author.Tests.{ne_eqb}
-use Rattle.ground.specs.Pick.{pick}
+use Rattle.std.specs.Prelude.{Result, Ok, Err}
+use Rattle.ground.specs.Pick.{pick, bit}
 use Rattle.ground.specs.Refusal.{number_of}
 use Rattle.ground.specs.Answer.{Answer, refused}
 use Rattle.ground.specs.declared.Refusal.{Refusal}
 use Rattle.ground.proofs.Numbers.{number_some, refusal_at, refusal_back}
 use Rattle.mode.specs.Says.{hear_says, ask_says, tick_says}
 use Rattle.mode.specs.Tries.{Tries}
-use Rattle.mode.specs.declared.HearAnswer.{HearAnswer}
-use Rattle.mode.specs.declared.HearAnswer.TheVariants as heard
-use Rattle.mode.specs.declared.AskAnswer.{AskAnswer}
-use Rattle.mode.specs.declared.AskAnswer.TheVariants as asked
-use Rattle.mode.specs.declared.TickAnswer.{TickAnswer}
-use Rattle.mode.specs.declared.TickAnswer.TheVariants as ticked
+use Rattle.mode.specs.declared.Due.TheVariants.{Quiet, Audio, Ended}
+use Rattle.mode.specs.declared.Heard.{Heard}
+use Rattle.mode.specs.declared.Due.{Due}
 
 -- An answer read back: by its values where it is accepted, else by its number.
 module _ {A : Type 0} (took : List ℕ → A) (refuse : Refusal → A) where
@@ -40,36 +38,39 @@ module _ {A : Type 0} (took : List ℕ → A) (refuse : Refusal → A) where
 abbrev pub first : List ℕ → ℕ
 first vs = get_or vs 0 0
 
-pub ask_says_once : (x y : AskAnswer) → ask_says x ≡ ask_says y → x ≡ y
-ask_says_once x y = one_case took asked.Refused ask_says x y (back x) (back y)
+pub ask_says_once : (x y : Result ℕ Refusal) → ask_says x ≡ ask_says y → x ≡ y
+ask_says_once x y = one_case took Err ask_says x y (back x) (back y)
   where
-    took : List ℕ → AskAnswer
-    took vs = asked.Mode (first vs)
+    took : List ℕ → Result ℕ Refusal
+    took vs = Ok (first vs)
 
-    back : (z : AskAnswer) → read_as took asked.Refused (ask_says z) ≡ z
-    back (asked.Mode m) = refl
-    back (asked.Refused r) = refused_back took asked.Refused r
+    back : (z : Result ℕ Refusal) → read_as took Err (ask_says z) ≡ z
+    back (Ok m) = refl
+    back (Err r) = refused_back took Err r
 
-pub hear_says_once : (x y : HearAnswer) → hear_says x ≡ hear_says y → x ≡ y
-hear_says_once x y = one_case took heard.Refused hear_says x y (back x) (back y)
+bit_back : (b : Bool) → eqb (bit b) 1 ≡ b
+bit_back true = refl
+bit_back false = refl
+
+pub hear_says_once : (x y : Result Heard Refusal) → hear_says x ≡ hear_says y → x ≡ y
+hear_says_once x y = one_case took Err hear_says x y (back x) (back y)
   where
-    took : List ℕ → HearAnswer
-    took vs = heard.Mode (first vs) (eqb (get_or vs 1 0) 1)
+    took : List ℕ → Result Heard Refusal
+    took vs = Ok (record { local = first vs; notice = eqb (get_or vs 1 0) 1 })
 
-    back : (z : HearAnswer) → read_as took heard.Refused (hear_says z) ≡ z
-    back (heard.Mode m true) = refl
-    back (heard.Mode m false) = refl
-    back (heard.Refused r) = refused_back took heard.Refused r
+    back : (z : Result Heard Refusal) → read_as took Err (hear_says z) ≡ z
+    back (Ok h) = ap (λ (n : Bool). Ok (record { local = h.local; notice = n })) (bit_back h.notice)
+    back (Err r) = refused_back took Err r
 
 -- a tick: 0 and 6 say that no try is due, so a try is read back where it is one of 1 to 5, as `tick` answers it
-pub tick_says_once : (x y : TickAnswer) → Tries x → Tries y → tick_says x ≡ tick_says y → x ≡ y
-tick_says_once x y p q = one_case took ticked.Refused tick_says x y (back x p) (back y q)
+pub tick_says_once : (x y : Result Due Refusal) → Tries x → Tries y → tick_says x ≡ tick_says y → x ≡ y
+tick_says_once x y p q = one_case took Err tick_says x y (back x p) (back y q)
   where
-    took : List ℕ → TickAnswer
-    took vs = pick (eqb (first vs) 0) ticked.Quiet (pick (eqb (first vs) 6) ticked.Ended (ticked.Audio (first vs)))
+    took : List ℕ → Result Due Refusal
+    took vs = pick (eqb (first vs) 0) (Ok Quiet) (pick (eqb (first vs) 6) (Ok Ended) (Ok (Audio (first vs))))
 
-    back : (z : TickAnswer) → Tries z → read_as took ticked.Refused (tick_says z) ≡ z
-    back ticked.Quiet h = refl
-    back (ticked.Audio n) h = rw (ne_eqb n 0 (λ e. omega (arith, h.0)), ne_eqb n 6 (λ e. omega (arith, h.1)))
-    back ticked.Ended h = refl
-    back (ticked.Refused r) h = refused_back took ticked.Refused r
+    back : (z : Result Due Refusal) → Tries z → read_as took Err (tick_says z) ≡ z
+    back (Ok Quiet) h = refl
+    back (Ok (Audio n)) h = rw (ne_eqb n 0 (λ e. omega (arith, h.0)), ne_eqb n 6 (λ e. omega (arith, h.1)))
+    back (Ok Ended) h = refl
+    back (Err r) h = refused_back took Err r

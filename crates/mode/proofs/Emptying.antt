@@ -11,9 +11,9 @@ use Rattle.ground.proofs.Settled.{settled_by}
 use Rattle.mode.specs.declared.Modes.{Modes}
 use Rattle.mode.specs.declared.Channels.{Channels}
 use Rattle.mode.specs.declared.Channels.TheVariants.{Stay, Fresh, Emptied}
-use Rattle.mode.specs.declared.HearStep.{HearStep}
-use Rattle.mode.specs.declared.AskStep.{AskStep}
-use Rattle.mode.specs.declared.TickStep.{TickStep}
+use Rattle.mode.specs.declared.Heard.{Heard}
+use Rattle.mode.specs.declared.Step.{Step}
+use Rattle.mode.specs.declared.Due.{Due}
 use Rattle.mode.specs.Given.{modem}
 use Rattle.mode.specs.Moved.{channels_for, moved, trying}
 use Rattle.mode.specs.Indication.{hear_tests, heard_mode, hear_step}
@@ -68,14 +68,14 @@ module _ (s s' : ℕ) where
 pub by_local : (l : Modes) (act : Act) → (outcome l act).channels ≡ channels_for l.local (after l act).local
 unfolding hear_step ask_step tick_step moved trying
 by_local l (hear k time) =
-    settled_by (λ (o : HearStep). o.channels ≡ channels_for l.local o.modes.local) (verdict (hear_tests l k time))
+    settled_by (λ (o : Step Heard). o.channels ≡ channels_for l.local o.modes.local) (verdict (hear_tests l k time))
     (λ r e. sym (same_stays l.local))
     (λ e. heard_by (λ n. channels_for l.local (heard_mode l k) ≡ channels_for l.local n.local) l k time (λ a b. refl) (λ a. refl))
 by_local l (ask k time) =
-    settled_by (λ (o : AskStep). o.channels ≡ channels_for l.local o.modes.local) (verdict (ask_tests l k time))
+    settled_by (λ (o : Step ℕ). o.channels ≡ channels_for l.local o.modes.local) (verdict (ask_tests l k time))
     (λ r e. sym (same_stays l.local))
     (λ e. refl)
 by_local l (tick time) =
-    settled_by (λ (o : TickStep). o.channels ≡ channels_for l.local o.modes.local) (verdict (tick_tests l time))
+    settled_by (λ (o : Step Due). o.channels ≡ channels_for l.local o.modes.local) (verdict (tick_tests l time))
     (λ r e. sym (same_stays l.local))
     (λ e. refl)

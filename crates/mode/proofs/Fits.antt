@@ -8,9 +8,9 @@ use mathlib.Core.Logic.{⊎_elim}
 use native.Mathlib.Omega.{arith}
 use lib.Dec.{eqb, leb, lit≤}
 use borrow.Author.Tests.{eq-eqb, ne_eqb, le-leb, leb-true, eqb-true, eqb-false, not-false}
+use Rattle.std.specs.Prelude.{Ok}
 use Rattle.ground.specs.Pick.{bit}
 use Rattle.ground.specs.Refusal.{verdict}
-use Rattle.ground.specs.declared.Verdict.TheVariants.{Pass}
 use Rattle.ground.proofs.Either.{or_second, or_either, or_cases}
 use Rattle.ground.proofs.Picks.{pick_by, both_true, each, together}
 use Rattle.mode.specs.declared.Modes.{Modes}
@@ -195,18 +195,18 @@ heard_ground : (l : Modes) (k : ℕ) → (l.tries ≡ 0 → ⊥) → heard_mode 
 unfolding heard_mode
 heard_ground l k n = rw (ne_eqb l.tries 0 n)
 
-heard_fits : (l : Modes) (k time : ℕ) → Fit l → verdict (hear_tests l k time) ≡ Pass → Fit (heard_modes l k time)
+heard_fits : (l : Modes) (k time : ℕ) → Fit l → verdict (hear_tests l k time) ≡ Ok tt → Fit (heard_modes l k time)
 heard_fits l k time f e =
     let h = hears l k time e in
     let m = moved_fits l (heard_mode l k) k time f (heard_serves l k) h.served (heard_ground l k) h.in_time in
     heard_by Fit l k time (λ t a. trying_fits _ 0 0 m (lit≤ tt) (λ n. absurd (n refl)) (λ n. absurd (n refl))) (λ t. m)
 
-asked_fits : (l : Modes) (k time : ℕ) → Fit l → verdict (ask_tests l k time) ≡ Pass → Fit (moved l k l.remote time)
+asked_fits : (l : Modes) (k time : ℕ) → Fit l → verdict (ask_tests l k time) ≡ Ok tt → Fit (moved l k l.remote time)
 asked_fits l k time f e =
     let a = asks l k time e in
     moved_fits l k l.remote time f (offered_serves l k a.offers) f.far (λ n. absurd (n a.calm)) a.in_time
 
-ticked_fits : (l : Modes) (time : ℕ) → Fit l → verdict (tick_tests l time) ≡ Pass → Fit (ticked_modes l time)
+ticked_fits : (l : Modes) (time : ℕ) → Fit l → verdict (tick_tests l time) ≡ Ok tt → Fit (ticked_modes l time)
 unfolding moved
 ticked_fits l time f e =
     let t = ticks l time e in

@@ -5,12 +5,12 @@ use mathlib.Core.Path.{◌≡◌, refl, ap, ◌∙◌}
 use mathlib.Core.Bool.{Bool, true, false, ◌&&◌, ◌||◌, not}
 use lib.Dec.{eqb}
 use borrow.Author.Tests.{eq-eqb}
+use Rattle.std.specs.Prelude.{Ok}
 use Rattle.ground.specs.Refusal.{verdict}
-use Rattle.ground.specs.declared.Verdict.TheVariants.{Pass}
 use Rattle.ground.proofs.Settled.{settled_took}
 use Rattle.mode.specs.declared.Modes.{Modes}
-use Rattle.mode.specs.declared.HearStep.{HearStep}
-use Rattle.mode.specs.declared.AskStep.{AskStep}
+use Rattle.mode.specs.declared.Heard.{Heard}
+use Rattle.mode.specs.declared.Step.{Step}
 use Rattle.mode.specs.Moved.{moved}
 use Rattle.mode.specs.Indication.{hear_tests, notice, hear_step}
 use Rattle.mode.specs.Request.{ask_tests, ask_step}
@@ -33,11 +33,11 @@ due_with l n h = rw h (with_notice (local_changed l n) (eqb n.local n.remote))
 due_without : (l n : Modes) → remote_changed l n ≡ false → indication_due l n ≡ local_changed l n
 due_without l n h = rw h (without_notice (local_changed l n) (eqb n.local n.remote))
 
-module _ (l : Modes) (k time : ℕ) (e : verdict (hear_tests l k time) ≡ Pass) where
+module _ (l : Modes) (k time : ℕ) (e : verdict (hear_tests l k time) ≡ Ok tt) where
   noticed : remote_changed l (after l (hear k time)) ≡ notice l k
   unfolding hear_step
   noticed =
-      settled_took (λ (o : HearStep). remote_changed l o.modes ≡ notice l k) (verdict (hear_tests l k time)) _ e
+      settled_took (λ (o : Step Heard). remote_changed l o.modes ≡ notice l k) (verdict (hear_tests l k time)) _ e
       (ap (λ (n : ℕ). not (eqb n l.remote)) (heard_remote l k time))
 
   -- where a notice is to be sent C.5.3.1 asks for an SSE too, but for its exception
@@ -49,8 +49,8 @@ module _ (l : Modes) (k time : ℕ) (e : verdict (hear_tests l k time) ≡ Pass)
   no_notice h = due_without l (after l (hear k time)) (noticed ∙ h)
 
 -- after a request C.5.3.1 asks for an SSE exactly if S changed
-pub request_due : (l : Modes) (k time : ℕ) → verdict (ask_tests l k time) ≡ Pass → indication_due l (after l (ask k time)) ≡ not (eqb k l.local)
+pub request_due : (l : Modes) (k time : ℕ) → verdict (ask_tests l k time) ≡ Ok tt → indication_due l (after l (ask k time)) ≡ not (eqb k l.local)
 unfolding ask_step moved
 request_due l k time e =
-    settled_took (λ (o : AskStep). indication_due l o.modes ≡ not (eqb k l.local)) (verdict (ask_tests l k time)) _ e
+    settled_took (λ (o : Step ℕ). indication_due l o.modes ≡ not (eqb k l.local)) (verdict (ask_tests l k time)) _ e
     (rw (eq-eqb l.remote l.remote refl) (without_notice (not (eqb k l.local)) (eqb k l.remote)))

@@ -5,8 +5,8 @@ use mathlib.Core.Path.{◌≡◌, refl}
 use mathlib.Core.Bool.{true}
 use native.Mathlib.Omega.{arith}
 use lib.Dec.{eqb}
+use Rattle.std.specs.Prelude.{Ok}
 use Rattle.ground.specs.Refusal.{verdict}
-use Rattle.ground.specs.declared.Verdict.TheVariants.{Pass}
 use Rattle.ground.proofs.Picks.{pick_by}
 use Rattle.mode.specs.declared.Modes.{Modes}
 use Rattle.mode.specs.Given.{audio, voiceband, given}
@@ -45,7 +45,7 @@ unfolding heard_mode
 heard_permitted l k a b = pick_by (λ s. permitted k s ≡ true) (eqb l.tries 0) (λ e. given_permitted l k a b) (λ e. audio_permitted k a b)
 
 -- THE PROMISE: where an indication is accepted, Table C.2 permits the local mode that it leaves the line in
-pub indication_permitted : (l : Modes) (k time : ℕ) → verdict (hear_tests l k time) ≡ Pass → permitted k (hear_step l k time).modes.local ≡ true
+pub indication_permitted : (l : Modes) (k time : ℕ) → verdict (hear_tests l k time) ≡ Ok tt → permitted k (hear_step l k time).modes.local ≡ true
 unfolding hear_step moved trying
 indication_permitted l k time e =
     let h = hears l k time e in

@@ -4,18 +4,17 @@ use Prim.Native.Nat.{ℕ, ◌<◌}
 use mathlib.Core.Path.{◌≡◌, refl, sym, ap}
 use mathlib.Core.List.{[]}
 use native.Mathlib.Omega.{arith}
-use Rattle.ground.specs.Refusal.{number_of, verdict}
+use Rattle.std.specs.Prelude.{Ok, Err}
+use Rattle.ground.specs.Refusal.{Verdict, number_of, verdict}
 use Rattle.ground.specs.Answer.{Answer, accepted, refused}
 use Rattle.ground.specs.declared.Refusal.{Refusal}
-use Rattle.ground.specs.declared.Verdict.{Verdict}
-use Rattle.ground.specs.declared.Verdict.TheVariants.{Pass, Refuse}
 use Rattle.ground.proofs.Numbers.{number_some}
 use Rattle.ground.proofs.Settled.{settled_took}
 use Rattle.mode.specs.declared.Modes.{Modes}
 use Rattle.mode.specs.declared.Channels.TheVariants.{Stay}
-use Rattle.mode.specs.declared.HearStep.{HearStep}
-use Rattle.mode.specs.declared.AskStep.{AskStep}
-use Rattle.mode.specs.declared.TickStep.{TickStep}
+use Rattle.mode.specs.declared.Heard.{Heard}
+use Rattle.mode.specs.declared.Step.{Step}
+use Rattle.mode.specs.declared.Due.{Due}
 use Rattle.mode.specs.Moved.{moved, trying}
 use Rattle.mode.specs.Indication.{hear_tests, heard_modes, hear_step}
 use Rattle.mode.specs.Request.{ask_tests, ask_step}
@@ -40,38 +39,38 @@ ticked_last l time = ticked_by (λ n. n.last ≡ time) l time refl (λ a b c. re
 
 -- What a mode call does by its verdict: its values and the call's time, or a refusal and nothing changed.
 pub record Settles (l : Modes) (act : Act) (v : Verdict) : Type 0 where
-  pub taken : v ≡ Pass → (outcome l act).said ≡ accepted (outcome l act).said.values
-  pub timed : v ≡ Pass → (after l act).last ≡ time_of act
-  pub refuses : (r : Refusal) → v ≡ Refuse r → outcome l act ≡ record { said = refused r; modes = l; channels = Stay }
+  pub taken : v ≡ Ok tt → (outcome l act).said ≡ accepted (outcome l act).said.values
+  pub timed : v ≡ Ok tt → (after l act).last ≡ time_of act
+  pub refuses : (r : Refusal) → v ≡ Err r → outcome l act ≡ record { said = refused r; modes = l; channels = Stay }
 
 pub settles : (l : Modes) (act : Act) → Settles l act (verdict (act_tests l act))
 unfolding hear_step ask_step tick_step moved
 settles l (hear k time) =
     record {
       taken = λ e. rw e;
-      timed = λ e. settled_took (λ (o : HearStep). o.modes.last ≡ time) (verdict (hear_tests l k time)) _ e (heard_last l k time);
+      timed = λ e. settled_took (λ (o : Step Heard). o.modes.last ≡ time) (verdict (hear_tests l k time)) _ e (heard_last l k time);
       refuses = λ r e. rw e;
     }
 settles l (ask k time) =
     record {
       taken = λ e. rw e;
-      timed = λ e. settled_took (λ (o : AskStep). o.modes.last ≡ time) (verdict (ask_tests l k time)) _ e refl;
+      timed = λ e. settled_took (λ (o : Step ℕ). o.modes.last ≡ time) (verdict (ask_tests l k time)) _ e refl;
       refuses = λ r e. rw e;
     }
 settles l (tick time) =
     record {
       taken = λ e. rw (e, answer_says l time);
-      timed = λ e. settled_took (λ (o : TickStep). o.modes.last ≡ time) (verdict (tick_tests l time)) _ e (ticked_last l time);
+      timed = λ e. settled_took (λ (o : Step Due). o.modes.last ≡ time) (verdict (tick_tests l time)) _ e (ticked_last l time);
       refuses = λ r e. rw e;
     }
 
 -- by its number an answer says which of the two it is
 module _ (l : Modes) (act : Act) where
   by_number : (P : Type 0) (v : Verdict) → v ≡ verdict (act_tests l act) →
-      (verdict (act_tests l act) ≡ Pass → (outcome l act).said.number ≡ 0 → P) →
+      (verdict (act_tests l act) ≡ Ok tt → (outcome l act).said.number ≡ 0 → P) →
       ((r : Refusal) → outcome l act ≡ record { said = refused r; modes = l; channels = Stay } → 0 < (outcome l act).said.number → P) → P
-  by_number P Pass e taken refuses = taken (sym e) (ap (λ (a : Answer). a.number) ((settles l act).taken (sym e)))
-  by_number P (Refuse r) e taken refuses =
+  by_number P (Ok tt) e taken refuses = taken (sym e) (ap (λ (a : Answer). a.number) ((settles l act).taken (sym e)))
+  by_number P (Err r) e taken refuses =
       let o = (settles l act).refuses r (sym e) in
       let n : (outcome l act).said.number ≡ number_of r = ap (λ (x : Outcome). x.said.number) o in
       refuses r o (omega (arith, n, number_some r))

@@ -7,19 +7,17 @@ use mathlib.Core.List.{List, [], ◌∷◌}
 use native.Mathlib.Omega.{arith}
 use borrow.Author.Tests.{eqb-true, eqb-false, ltb-true, ltb-false, leb-true, not-true, lt-ltb, eq-eqb, ne_eqb}
 use lib.Dec.{eqb, ltb}
+use Rattle.std.specs.Prelude.{Result, Ok}
 use Rattle.ground.specs.Pick.{pick}
 use Rattle.ground.specs.Refusal.{verdict}
-use Rattle.ground.specs.declared.Verdict.TheVariants.{Pass}
 use Rattle.ground.proofs.Either.{by_test}
 use Rattle.ground.proofs.Picks.{pick_by, both_true, clash}
 use Rattle.ground.proofs.Settled.{settled_by}
 use Rattle.ground.proofs.Verdicts.{passed}
 use Rattle.mode.specs.declared.Modes.{Modes}
-use Rattle.mode.specs.declared.TickAnswer.{TickAnswer}
-use Rattle.mode.specs.declared.TickAnswer.TheVariants.{Quiet, Audio, Ended}
-use Rattle.mode.specs.declared.HearStep.{HearStep}
-use Rattle.mode.specs.declared.AskStep.{AskStep}
-use Rattle.mode.specs.declared.TickStep.{TickStep}
+use Rattle.mode.specs.declared.Heard.{Heard}
+use Rattle.mode.specs.declared.Step.{Step}
+use Rattle.mode.specs.declared.Due.{Due}
 use Rattle.mode.specs.Given.{unknown, audio, modem, text, has_left, offered}
 use Rattle.mode.specs.Moved.{timed, moved, trying, stayed, ended}
 use Rattle.mode.specs.Indication.{hear_tests, heard_mode, heard_modes, hear_step}
@@ -27,9 +25,11 @@ use Rattle.mode.specs.Request.{ask_tests, ask_step}
 use Rattle.mode.specs.Recovery.{tick_tests, due, ticked_modes, ticked_answer, tick_step}
 use Rattle.mode.proofs.Tries.{ended_rests, due_first, due_next}
 use Rattle.mode.specs.Acts.{Act, hear, ask, tick, after, run, time_of}
+use Rattle.mode.specs.declared.Due.TheVariants.{Quiet, Audio, Ended}
+use Rattle.ground.specs.declared.Refusal.{Refusal}
 
 -- what an accepted indication, request or tick has shown
-pub record Heard (l : Modes) (k time : ℕ) : Type 0 where
+pub record Indicated (l : Modes) (k time : ℕ) : Type 0 where
   pub in_time : l.last ≤ time
   pub running : l.tries ≤ 5
   pub known : audio ≤ k
@@ -41,7 +41,7 @@ pub record Asked (l : Modes) (k time : ℕ) : Type 0 where
   pub offers : offered l k ≡ true
   pub fresh : (eqb k modem && has_left l) ≡ false
 
-pub hears : (l : Modes) (k time : ℕ) → verdict (hear_tests l k time) ≡ Pass → Heard l k time
+pub hears : (l : Modes) (k time : ℕ) → verdict (hear_tests l k time) ≡ Ok tt → Indicated l k time
 hears l k time e =
     let h = passed (hear_tests l k time) e in
     let b = both_true _ _ h.1.1.0 in
@@ -52,7 +52,7 @@ hears l k time e =
       served = leb-true _ _ b.1;
     }
 
-pub asks : (l : Modes) (k time : ℕ) → verdict (ask_tests l k time) ≡ Pass → Asked l k time
+pub asks : (l : Modes) (k time : ℕ) → verdict (ask_tests l k time) ≡ Ok tt → Asked l k time
 asks l k time e =
     let h = passed (ask_tests l k time) e in
     record {
@@ -62,7 +62,7 @@ asks l k time e =
       fresh = not-true _ h.1.1.1.0;
     }
 
-pub ticks : (l : Modes) (time : ℕ) → verdict (tick_tests l time) ≡ Pass → l.last ≤ time
+pub ticks : (l : Modes) (time : ℕ) → verdict (tick_tests l time) ≡ Ok tt → l.last ≤ time
 ticks l time e = leb-true _ _ (passed (tick_tests l time) e).0
 
 same_left : (t : Bool) (left : ℕ) → pick (t && not t) 1 left ≡ left
@@ -93,22 +93,22 @@ moved_same l time =
 
 -- what holds of the record as it was, and of what a call makes of it once its tests pass, holds after the call
 module _ (P : Modes → Type 0) (l : Modes) (same : P l) where
-  pub hear_by : (k time : ℕ) → (verdict (hear_tests l k time) ≡ Pass → P (heard_modes l k time)) → P (hear_step l k time).modes
+  pub hear_by : (k time : ℕ) → (verdict (hear_tests l k time) ≡ Ok tt → P (heard_modes l k time)) → P (hear_step l k time).modes
   unfolding hear_step
-  hear_by k time heard = settled_by (λ (o : HearStep). P o.modes) (verdict (hear_tests l k time)) (λ r e. same) heard
+  hear_by k time heard = settled_by (λ (o : Step Heard). P o.modes) (verdict (hear_tests l k time)) (λ r e. same) heard
 
-  pub ask_by : (k time : ℕ) → (verdict (ask_tests l k time) ≡ Pass → P (moved l k l.remote time)) → P (ask_step l k time).modes
+  pub ask_by : (k time : ℕ) → (verdict (ask_tests l k time) ≡ Ok tt → P (moved l k l.remote time)) → P (ask_step l k time).modes
   unfolding ask_step
-  ask_by k time asked = settled_by (λ (o : AskStep). P o.modes) (verdict (ask_tests l k time)) (λ r e. same) asked
+  ask_by k time asked = settled_by (λ (o : Step ℕ). P o.modes) (verdict (ask_tests l k time)) (λ r e. same) asked
 
-  pub tick_by : (time : ℕ) → (verdict (tick_tests l time) ≡ Pass → P (ticked_modes l time)) → P (tick_step l time).modes
+  pub tick_by : (time : ℕ) → (verdict (tick_tests l time) ≡ Ok tt → P (ticked_modes l time)) → P (tick_step l time).modes
   unfolding tick_step
-  tick_by time ticked = settled_by (λ (o : TickStep). P o.modes) (verdict (tick_tests l time)) (λ r e. same) ticked
+  tick_by time ticked = settled_by (λ (o : Step Due). P o.modes) (verdict (tick_tests l time)) (λ r e. same) ticked
 
   pub after_by :
-      ((k time : ℕ) → verdict (hear_tests l k time) ≡ Pass → P (heard_modes l k time)) →
-      ((k time : ℕ) → verdict (ask_tests l k time) ≡ Pass → P (moved l k l.remote time)) →
-      ((time : ℕ) → verdict (tick_tests l time) ≡ Pass → P (ticked_modes l time)) →
+      ((k time : ℕ) → verdict (hear_tests l k time) ≡ Ok tt → P (heard_modes l k time)) →
+      ((k time : ℕ) → verdict (ask_tests l k time) ≡ Ok tt → P (moved l k l.remote time)) →
+      ((time : ℕ) → verdict (tick_tests l time) ≡ Ok tt → P (ticked_modes l time)) →
       (act : Act) → P (after l act)
   after_by heard asked ticked (hear k time) = hear_by k time (heard k time)
   after_by heard asked ticked (ask k time) = ask_by k time (asked k time)
@@ -132,7 +132,7 @@ heard_by P l k time ends stays =
     (λ t. stays (λ h e. clash (sym (rw (lt-ltb 0 l.tries h, eq-eqb k audio e) at t))))
 
 -- a tick does nothing, says that the line has ended, begins recovery, tries once more, or ends the line; each with its answer
-module _ (P : TickAnswer → Modes → Type 0) (l : Modes) (time : ℕ)
+module _ (P : Due → Modes → Type 0) (l : Modes) (time : ℕ)
     (quiet : due l time ≡ false → l.tries ≤ 5 → P Quiet (moved l l.local l.remote time))
     (over : 5 < l.tries → P Ended (moved l l.local l.remote time))
     (first : l.tries ≡ 0 → (l.local ≡ l.remote → ⊥) → 1000 < time - l.since → P (Audio 1) (trying (moved l audio unknown time) 1 time))

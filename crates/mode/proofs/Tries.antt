@@ -6,14 +6,15 @@ use mathlib.Core.Bool.{Bool, true, false, not}
 use mathlib.Core.List.{[], ◌∷◌}
 use lib.Dec.{eqb}
 use borrow.Author.Tests.{eqb-true, eqb-false, ltb-true, ltb-false, leb-true, not-true, eq-eqb, ne_eqb}
+use Rattle.std.specs.Prelude.{Ok}
 use Rattle.ground.specs.Pick.{pick}
 use Rattle.ground.proofs.Picks.{both_true, pick_by}
 use Rattle.mode.specs.declared.Modes.{Modes}
-use Rattle.mode.specs.declared.TickAnswer.TheVariants.{Quiet, Audio, Ended}
 use Rattle.mode.specs.Moved.{ended}
 use Rattle.mode.specs.Recovery.{due, differed_long, tried_long, ticked_answer, try_due}
 use Rattle.ground.specs.Answer.{accepted}
 use Rattle.mode.specs.Says.{tick_says}
+use Rattle.mode.specs.declared.Due.TheVariants.{Quiet, Audio, Ended}
 
 -- a line where a try, or the end, is due has not ended: its count of tries can go up by one
 pub due_tries : (l : Modes) (time : ℕ) → due l time ≡ true → l.tries ≤ 5
@@ -43,15 +44,15 @@ due_next l time e n =
     leb-true _ _ w
 
 -- what follows try 5 is said as 6
-last_says : (n : ℕ) → tick_says (pick (eqb n 5) Ended (Audio (n + 1))) ≡ accepted ((n + 1) ∷ [])
-last_says n = pick_by (λ t. tick_says t ≡ accepted ((n + 1) ∷ [])) (eqb n 5) (λ e. rw (eqb-true n 5 e)) (λ e. refl)
+last_says : (n : ℕ) → tick_says (Ok (pick (eqb n 5) Ended (Audio (n + 1)))) ≡ accepted ((n + 1) ∷ [])
+last_says n = pick_by (λ t. tick_says (Ok t) ≡ accepted ((n + 1) ∷ [])) (eqb n 5) (λ e. rw (eqb-true n 5 e)) (λ e. refl)
 
-by_tests : (over more : Bool) (n : ℕ) → tick_says (pick over Ended (pick more (pick (eqb n 5) Ended (Audio (n + 1))) Quiet)) ≡ accepted (pick over 6 (pick more (n + 1) 0) ∷ [])
+by_tests : (over more : Bool) (n : ℕ) → tick_says (Ok (pick over Ended (pick more (pick (eqb n 5) Ended (Audio (n + 1))) Quiet))) ≡ accepted (pick over 6 (pick more (n + 1) 0) ∷ [])
 by_tests true more n = refl
 by_tests false true n = last_says n
 by_tests false false n = refl
 
 -- a tick's answer in numbers
-pub answer_says : (l : Modes) (time : ℕ) → tick_says (ticked_answer l time) ≡ accepted (try_due l time ∷ [])
+pub answer_says : (l : Modes) (time : ℕ) → tick_says (Ok (ticked_answer l time)) ≡ accepted (try_due l time ∷ [])
 unfolding ticked_answer
 answer_says l time = by_tests (ended l) (due l time) l.tries

@@ -1,20 +1,20 @@
 -- Mode calls one after another: what promises about any sequence of them speak of.
 -- Assumes nothing.
-use Rattle.std.specs.Prelude.{ℕ, ◌≡◌, List, [], ◌∷◌, ◌++◌}
+use Rattle.std.specs.Prelude.{ℕ, ◌≡◌, List, [], ◌∷◌, ◌++◌, Result, Ok, Err}
 use Rattle.ground.specs.Refusal.{Test}
 use Rattle.mode.specs.declared.Modes.{Modes}
 use Rattle.mode.specs.declared.Channels.{Channels}
-use Rattle.mode.specs.declared.HearStep.{HearStep}
-use Rattle.mode.specs.declared.AskStep.{AskStep}
-use Rattle.mode.specs.declared.TickStep.{TickStep}
-use Rattle.mode.specs.declared.TickAnswer.{TickAnswer}
-use Rattle.mode.specs.declared.TickAnswer.TheVariants.{Quiet, Audio, Ended, Refused}
+use Rattle.mode.specs.declared.Heard.{Heard}
+use Rattle.mode.specs.declared.Step.{Step}
 use Rattle.mode.specs.Given.{audio}
 use Rattle.mode.specs.Indication.{hear_tests, hear_step}
 use Rattle.mode.specs.Request.{ask_tests, ask_step}
 use Rattle.mode.specs.Recovery.{tick_tests, tick_step}
 use Rattle.ground.specs.Answer.{Answer}
 use Rattle.mode.specs.Says.{hear_says, ask_says, tick_says}
+use Rattle.mode.specs.declared.Due.TheVariants.{Quiet, Audio, Ended}
+use Rattle.ground.specs.declared.Refusal.{Refusal}
+use Rattle.mode.specs.declared.Due.{Due}
 
 -- a mode call with its arguments, whatever they are
 pub data Act : Type 0 where
@@ -34,13 +34,13 @@ pub record Outcome : Type 0 where
   pub modes : Modes
   pub channels : Channels
 
-abbrev pub hear_outcome : HearStep → Outcome
+abbrev pub hear_outcome : Step Heard → Outcome
 hear_outcome o = record { said = hear_says o.answer; modes = o.modes; channels = o.channels }
 
-abbrev pub ask_outcome : AskStep → Outcome
+abbrev pub ask_outcome : Step ℕ → Outcome
 ask_outcome o = record { said = ask_says o.answer; modes = o.modes; channels = o.channels }
 
-abbrev pub tick_outcome : TickStep → Outcome
+abbrev pub tick_outcome : Step Due → Outcome
 tick_outcome o = record { said = tick_says o.answer; modes = o.modes; channels = o.channels }
 
 abbrev pub outcome : Modes → Act → Outcome
@@ -63,11 +63,11 @@ time_of (ask mode time) = time
 time_of (tick time) = time
 
 -- the audio indications that a call calls for, each by its try (RULES 10.1, RULES 10.2)
-abbrev pub called_by : TickAnswer → List ℕ
-called_by Quiet = []
-called_by (Audio n) = n ∷ []
-called_by Ended = []
-called_by (Refused r) = []
+abbrev pub called_by : Result Due Refusal → List ℕ
+called_by (Ok Quiet) = []
+called_by (Ok (Audio n)) = n ∷ []
+called_by (Ok Ended) = []
+called_by (Err r) = []
 
 abbrev pub called : Modes → Act → List ℕ
 called l (hear mode time) = []

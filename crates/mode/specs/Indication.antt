@@ -1,13 +1,13 @@
 -- An indication heard: its refusals in their order, its effect, and both together. NOLINE, which comes before them, is refused in `calls`.
 -- Assumes nothing.
-use Rattle.std.specs.Prelude.{ℕ, Bool, ◌&&◌, not, List, [], ◌∷◌, eqb, leb, ltb}
+use Rattle.std.specs.Prelude.{ℕ, Bool, ◌&&◌, not, List, [], ◌∷◌, eqb, leb, ltb, Ok, Err}
 use Rattle.ground.specs.Pick.{pick}
 use Rattle.ground.specs.Refusal.{Test, must, verdict, settle}
 use Rattle.ground.specs.declared.Refusal.TheVariants.{RANGE, RECOVERY}
 use Rattle.mode.specs.declared.Modes.{Modes}
 use Rattle.mode.specs.declared.Channels.TheVariants.{Stay}
-use Rattle.mode.specs.declared.HearAnswer.TheVariants.{Mode, Refused}
-use Rattle.mode.specs.declared.HearStep.{HearStep}
+use Rattle.mode.specs.declared.Heard.{Heard}
+use Rattle.mode.specs.declared.Step.{Step}
 use Rattle.mode.specs.Given.{audio, text, given}
 use Rattle.mode.specs.Moved.{channels_for, moved, trying, in_time, ended}
 
@@ -37,8 +37,8 @@ abbrev pub notice : Modes → ℕ → Bool
 notice l k = not (eqb k l.remote)
 
 -- the call: the first refusal that holds, with nothing changed (RULES 1.6); else "The answer says S", and the notice (RULES 9.8)
-unfoldable pub hear_step : Modes → ℕ → ℕ → HearStep
+unfoldable pub hear_step : Modes → ℕ → ℕ → Step Heard
 hear_step l k time =
     settle (verdict (hear_tests l k time))
-    (λ r. record { answer = Refused r; modes = l; channels = Stay })
-    (record { answer = Mode (heard_mode l k) (notice l k); modes = heard_modes l k time; channels = channels_for l.local (heard_mode l k) })
+    (λ r. record { answer = Err r; modes = l; channels = Stay })
+    (record { answer = Ok (record { local = heard_mode l k; notice = notice l k }); modes = heard_modes l k time; channels = channels_for l.local (heard_mode l k) })

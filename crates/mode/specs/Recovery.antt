@@ -1,15 +1,15 @@
 -- A tick and recovery: when a try is due, what a tick makes of the modes, what it answers.
 -- Assumes nothing.
-use Rattle.std.specs.Prelude.{ℕ, ◌+◌, ◌-◌, Bool, ◌&&◌, not, List, [], ◌∷◌, eqb, leb, ltb}
+use Rattle.std.specs.Prelude.{ℕ, ◌+◌, ◌-◌, Bool, ◌&&◌, not, List, [], ◌∷◌, eqb, leb, ltb, Ok, Err}
 use Rattle.ground.specs.Pick.{pick}
 use Rattle.ground.specs.Refusal.{Test, verdict, settle}
 use Rattle.mode.specs.declared.Modes.{Modes}
 use Rattle.mode.specs.declared.Channels.TheVariants.{Stay}
-use Rattle.mode.specs.declared.TickAnswer.{TickAnswer}
-use Rattle.mode.specs.declared.TickAnswer.TheVariants.{Quiet, Audio, Ended, Refused}
-use Rattle.mode.specs.declared.TickStep.{TickStep}
+use Rattle.mode.specs.declared.Step.{Step}
 use Rattle.mode.specs.Given.{unknown, audio}
 use Rattle.mode.specs.Moved.{channels_for, moved, trying, stayed, last_try, over, in_time, ended}
+use Rattle.mode.specs.declared.Due.TheVariants.{Quiet, Audio, Ended}
+use Rattle.mode.specs.declared.Due.{Due}
 
 -- CLOCK (RULES 14.12, RULES 14.21)
 abbrev pub tick_tests : Modes → ℕ → List Test
@@ -39,7 +39,7 @@ ticked_modes l time =
 
 -- what the tick answers: the try that it makes (RULES 10.1, RULES 10.2), or that nothing is due (RULES 10.3), or that the line has ended
 -- (RULES 10.6); "A tick on an ended line says ended again" (RULES 10.7)
-unfoldable pub ticked_answer : Modes → ℕ → TickAnswer
+unfoldable pub ticked_answer : Modes → ℕ → Due
 ticked_answer l time =
     pick (ended l) Ended
     (pick (due l time)
@@ -51,8 +51,8 @@ abbrev pub try_due : Modes → ℕ → ℕ
 try_due l time = pick (ended l) over (pick (due l time) (l.tries + 1) 0)
 
 -- the call: CLOCK, with nothing changed (RULES 1.6); else what the tick makes and answers
-unfoldable pub tick_step : Modes → ℕ → TickStep
+unfoldable pub tick_step : Modes → ℕ → Step Due
 tick_step l time =
     settle (verdict (tick_tests l time))
-    (λ r. record { answer = Refused r; modes = l; channels = Stay })
-    (record { answer = ticked_answer l time; modes = ticked_modes l time; channels = channels_for l.local (ticked_modes l time).local })
+    (λ r. record { answer = Err r; modes = l; channels = Stay })
+    (record { answer = Ok (ticked_answer l time); modes = ticked_modes l time; channels = channels_for l.local (ticked_modes l time).local })

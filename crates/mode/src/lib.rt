@@ -44,52 +44,28 @@ pub enum Channels {
     Emptied,
 }
 
-// What an indication heard is answered.
+// What an indication heard is answered: the local mode, and whether a P' notice is to be sent.
 #[derive(Clone, Copy)]
-pub enum HearAnswer {
-    // The local mode, and whether a P' notice is to be sent.
-    Mode(u8, bool),
-    Refused(Refusal),
+pub struct Heard {
+    pub local: u8,
+    pub notice: bool,
 }
 
-// What a local request is answered.
+// What is due at a tick.
 #[derive(Clone, Copy)]
-pub enum AskAnswer {
-    // The local mode.
-    Mode(u8),
-    Refused(Refusal),
-}
-
-// What a tick is answered.
-#[derive(Clone, Copy)]
-pub enum TickAnswer {
-    // Nothing is due.
+pub enum Due {
+    // Nothing.
     Quiet,
-    // An audio indication is due: that try, 1 to 5.
+    // An audio indication: that try, 1 to 5.
     Audio(u8),
-    // The line has ended.
+    // Nothing any more: the line has ended.
     Ended,
-    Refused(Refusal),
 }
 
-// A call's outcome: its answer, the next modes, and what becomes of the channels.
+// What a mode call gives: its answer, the next modes, and what becomes of the channels.
 #[derive(Clone, Copy)]
-pub struct HearStep {
-    pub answer: HearAnswer,
-    pub modes: Modes,
-    pub channels: Channels,
-}
-
-#[derive(Clone, Copy)]
-pub struct AskStep {
-    pub answer: AskAnswer,
-    pub modes: Modes,
-    pub channels: Channels,
-}
-
-#[derive(Clone, Copy)]
-pub struct TickStep {
-    pub answer: TickAnswer,
+pub struct Step<T> {
+    pub answer: Result<T, Refusal>,
     pub modes: Modes,
     pub channels: Channels,
 }

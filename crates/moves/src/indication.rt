@@ -7,8 +7,9 @@ ghost use Rattle.mode.specs.Indication.{hear_tests, heard_mode, heard_modes, not
 ghost use Rattle.ground.specs.Pick.{bit};
 ghost use Rattle.mode.specs.Says.{hear_says, says};
 
-use ground::{Refusal, Verdict};
-use mode::{Channels, HearAnswer, HearStep, Modes, channels_for};
+use crate::refused;
+use ground::Refusal;
+use mode::{Heard, Modes, Step, channels_for};
 
 // What an indication of v gives.
 fn as_voiceband(modes: Modes) -> u8
@@ -56,19 +57,19 @@ fn given(modes: Modes, mode: u8) -> u8
 }
 
 // What refuses an indication: CLOCK, RECOVERY, RANGE.
-fn hear_verdict(modes: Modes, mode: u8, time: u64) -> Verdict
+fn hear_verdict(modes: Modes, mode: u8, time: u64) -> Result<(), Refusal>
     ensures { result ≡ verdict (hear_tests modes mode time) }
 {
     if time < modes.last {
-        return Verdict::Refuse(Refusal::CLOCK);
+        return Err(Refusal::CLOCK);
     }
     if modes.ended() {
-        return Verdict::Refuse(Refusal::RECOVERY);
+        return Err(Refusal::RECOVERY);
     }
-    if (Modes::AUDIO <= mode) & (mode <= Modes::TEXT) {
-        return Verdict::Pass;
+    if !((Modes::AUDIO <= mode) & (mode <= Modes::TEXT)) {
+        return Err(Refusal::RANGE);
     }
-    Verdict::Refuse(Refusal::RANGE)
+    Ok(())
 }
 
 // The local mode after an indication: in recovery it stays a.
@@ -95,28 +96,20 @@ fn heard_modes(modes: Modes, mode: u8, time: u64) -> Modes
 }
 
 // An indication of a mode is heard at a time.
-pub fn hear(modes: Modes, mode: u8, time: u64) -> HearStep
+pub fn hear(modes: Modes, mode: u8, time: u64) -> Step<Heard>
     ensures value { result ≡ hear_step modes mode time }
     ensures said { hear_says result.answer ≡ says (verdict (hear_tests modes mode time)) (heard_mode modes mode ∷ bit (notice modes mode) ∷ []) }
 {
     match hear_verdict(modes, mode, time) {
-        Verdict::Pass => {
+        Err(why) => refused(modes, why),
+        Ok(()) => {
             let local = heard_mode(modes, mode);
-            let answer = HearAnswer::Mode(local, mode != modes.remote);
+            let notice = mode != modes.remote;
             let next = heard_modes(modes, mode, time);
             let channels = channels_for(modes.local, local);
-            HearStep {
-                answer,
+            Step {
+                answer: Ok(Heard { local, notice }),
                 modes: next,
-                channels,
-            }
-        }
-        Verdict::Refuse(why) => {
-            let answer = HearAnswer::Refused(why);
-            let channels = Channels::Stay;
-            HearStep {
-                answer,
-                modes,
                 channels,
             }
         }

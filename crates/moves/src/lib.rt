@@ -3,6 +3,12 @@
 // NOLINE is refused in `calls`. They stand apart from it for the check's sake: an edit of either checks half (docs/DECISIONS.md).
 #![tactic(auto)]
 
+ghost use Rattle.std.specs.Prelude.{◌≡◌, Err};
+ghost use Rattle.mode.specs.declared.Channels.TheVariants.{Stay};
+
+use ground::Refusal;
+use mode::{Channels, Modes, Step};
+
 mod indication; // indication.rt: an indication heard
 mod recovery; // recovery.rt: a tick, and recovery by the clock
 mod request; // request.rt: a local request
@@ -10,3 +16,14 @@ mod request; // request.rt: a local request
 pub use indication::hear;
 pub use recovery::tick;
 pub use request::ask;
+
+// A call refused: the modes and the channels stay.
+fn refused<T>(modes: Modes, why: Refusal) -> Step<T>
+    ensures { result ≡ record { answer = Err why; modes = modes; channels = Stay } }
+{
+    Step {
+        answer: Err(why),
+        modes,
+        channels: Channels::Stay,
+    }
+}

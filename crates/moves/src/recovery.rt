@@ -5,8 +5,9 @@ ghost use Rattle.ground.specs.Refusal.{verdict};
 ghost use Rattle.mode.specs.Recovery.{tick_tests, due, ticked_modes, ticked_answer, try_due, tick_step};
 ghost use Rattle.mode.specs.Says.{tick_says, says};
 
-use ground::{Refusal, Verdict};
-use mode::{Channels, Modes, TickAnswer, TickStep, channels_for};
+use crate::refused;
+use ground::Refusal;
+use mode::{Due, Modes, Step, channels_for};
 
 // Milliseconds from one time to another; none where that is not the later.
 fn elapsed(from: u64, to: u64) -> u64
@@ -16,13 +17,13 @@ fn elapsed(from: u64, to: u64) -> u64
 }
 
 // What refuses a tick: CLOCK.
-fn tick_verdict(modes: Modes, time: u64) -> Verdict
+fn tick_verdict(modes: Modes, time: u64) -> Result<(), Refusal>
     ensures { result ≡ verdict (tick_tests modes time) }
 {
     if time < modes.last {
-        return Verdict::Refuse(Refusal::CLOCK);
+        return Err(Refusal::CLOCK);
     }
-    Verdict::Pass
+    Ok(())
 }
 
 // A try, or the end after the last one, is due.
@@ -59,44 +60,36 @@ fn ticked_modes(modes: Modes, time: u64) -> Modes
 }
 
 // What a tick answers.
-fn ticked_answer(modes: Modes, time: u64) -> TickAnswer
+fn ticked_answer(modes: Modes, time: u64) -> Due
     ensures { result ≡ ticked_answer modes time }
 {
     if modes.ended() {
-        return TickAnswer::Ended;
+        return Due::Ended;
     }
     if !due(modes, time) {
-        return TickAnswer::Quiet;
+        return Due::Quiet;
     }
     let tries = modes.tries;
     if tries == Modes::TRIES {
-        return TickAnswer::Ended;
+        return Due::Ended;
     }
-    TickAnswer::Audio(tries + 1)
+    Due::Audio(tries + 1)
 }
 
 // A tick of the caller's clock.
-pub fn tick(modes: Modes, time: u64) -> TickStep
+pub fn tick(modes: Modes, time: u64) -> Step<Due>
     ensures value { result ≡ tick_step modes time }
     ensures said { tick_says result.answer ≡ says (verdict (tick_tests modes time)) (try_due modes time ∷ []) }
 {
     match tick_verdict(modes, time) {
-        Verdict::Pass => {
+        Err(why) => refused(modes, why),
+        Ok(()) => {
             let answer = ticked_answer(modes, time);
             let next = ticked_modes(modes, time);
             let channels = channels_for(modes.local, next.local);
-            TickStep {
-                answer,
+            Step {
+                answer: Ok(answer),
                 modes: next,
-                channels,
-            }
-        }
-        Verdict::Refuse(why) => {
-            let answer = TickAnswer::Refused(why);
-            let channels = Channels::Stay;
-            TickStep {
-                answer,
-                modes,
                 channels,
             }
         }

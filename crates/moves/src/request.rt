@@ -6,8 +6,9 @@ ghost use Rattle.mode.specs.Given.{offered};
 ghost use Rattle.mode.specs.Request.{ask_tests, ask_step};
 ghost use Rattle.mode.specs.Says.{ask_says, says};
 
-use ground::{Refusal, Verdict};
-use mode::{AskAnswer, AskStep, Channels, Modes, channels_for};
+use crate::refused;
+use ground::Refusal;
+use mode::{Modes, Step, channels_for};
 
 // A mode that a request may name: a, and v and m where they are offered.
 fn offers(modes: Modes, mode: u8) -> bool
@@ -19,46 +20,37 @@ fn offers(modes: Modes, mode: u8) -> bool
 }
 
 // What refuses a request: CLOCK, RECOVERY, RANGE, MODE.
-fn ask_verdict(modes: Modes, mode: u8, time: u64) -> Verdict
+fn ask_verdict(modes: Modes, mode: u8, time: u64) -> Result<(), Refusal>
     ensures { result ≡ verdict (ask_tests modes mode time) }
 {
     if time < modes.last {
-        return Verdict::Refuse(Refusal::CLOCK);
+        return Err(Refusal::CLOCK);
     }
     if modes.tries != 0 {
-        return Verdict::Refuse(Refusal::RECOVERY);
+        return Err(Refusal::RECOVERY);
     }
     if !offers(modes, mode) {
-        return Verdict::Refuse(Refusal::RANGE);
+        return Err(Refusal::RANGE);
     }
     if (mode == Modes::MODEM) & (modes.left == Modes::YES) {
-        return Verdict::Refuse(Refusal::MODE);
+        return Err(Refusal::MODE);
     }
-    Verdict::Pass
+    Ok(())
 }
 
 // A mode is requested at a time, by the line's own side.
-pub fn ask(modes: Modes, mode: u8, time: u64) -> AskStep
+pub fn ask(modes: Modes, mode: u8, time: u64) -> Step<u8>
     ensures value { result ≡ ask_step modes mode time }
     ensures said { ask_says result.answer ≡ says (verdict (ask_tests modes mode time)) (mode ∷ []) }
 {
     match ask_verdict(modes, mode, time) {
-        Verdict::Pass => {
-            let answer = AskAnswer::Mode(mode);
+        Err(why) => refused(modes, why),
+        Ok(()) => {
             let next = modes.moved(mode, modes.remote, time);
             let channels = channels_for(modes.local, mode);
-            AskStep {
-                answer,
+            Step {
+                answer: Ok(mode),
                 modes: next,
-                channels,
-            }
-        }
-        Verdict::Refuse(why) => {
-            let answer = AskAnswer::Refused(why);
-            let channels = Channels::Stay;
-            AskStep {
-                answer,
-                modes,
                 channels,
             }
         }

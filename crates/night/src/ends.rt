@@ -1,265 +1,126 @@
-// What the program at one end of the lines does in a turn: messages are taken, written, read as they arrive, and handed out.
-ghost use Rattle.std.specs.Prelude.{◌≤◌, length};
+// What the gateway at one end of the lines does in a turn: messages are taken, written, read as they arrive, and handed out.
+use crate::dice::Purpose;
+use crate::message::Message;
+use crate::station::Station;
+use crate::stream::{Channel, LINES, Stream};
+use crate::world::World;
+use std::alloc::AllocError;
 
-use crate::dice::Dice;
-use crate::tally::Stream;
-use crate::{air, counts, tally};
-use book::Book;
-use gateway::{HeldAnswer, TakeAnswer};
-use ground::WriteAnswer;
+// How many steps of each stream there are in a turn.
+const STEPS: u8 = 4;
 
-// Counts a message that was taken.
-fn note_taken(ledger: &mut [u64; 2304], stream: Stream, size: usize, answer: TakeAnswer) {
-    match answer {
-        TakeAnswer::Refused(_) => {}
-        TakeAnswer::Number(_) => {
-            stream.add(ledger, tally::TAKEN, 1);
-            stream.add(ledger, tally::OCTETS, size as u64);
-        }
+// The rank of the message to write: any of the first 32, as the dice say, or the oldest where there is none of that rank; none
+// where no message is held.
+fn rank(held: u32, roll: u8) -> Option<u8> {
+    let any = roll % 32;
+    if held == 0 {
+        None
+    } else if u32::from(any) < held {
+        Some(any)
+    } else {
+        Some(0)
     }
-}
-
-// Puts the next message of a stream at the start of `out`, and answers its size; 0 where none is left.
-fn next(ledger: &[u64; 2304], stream: Stream, out: &mut [u8]) -> usize
-    ensures { result ≤ length out.new }
-{
-    let k = stream.count(ledger, tally::TAKEN);
-    if stream.count(ledger, tally::ASKED) <= k {
-        return 0;
-    }
-    counts::write(stream.number(), k, out)
-}
-
-// Takes the next message of a stream, if one is left and its channel has room.
-fn take(book: Book, store: &mut [u8; 42240], ledger: &mut [u64; 2304], stream: Stream) -> Book {
-    let mut message = [0u8; 132];
-    let size = next(ledger, stream, &mut message);
-    if size == 0 {
-        return book;
-    }
-    let took = gateway::take(book, store, stream.line, stream.channel, &message[0..size]);
-    let answer = took.answer;
-    note_taken(ledger, stream, size, answer);
-    took.book
-}
-
-// The rank of the message to write: any of the first 32, as the dice say, or the oldest where there is none of that rank; 32 where
-// none is held.
-fn rank(held: HeldAnswer, roll: u64) -> u8 {
-    match held {
-        HeldAnswer::Refused(_) => 32,
-        HeldAnswer::Holds(count) => {
-            let any = (roll % 32) as u8;
-            if count == 0 {
-                return 32;
-            }
-            if (any as u32) < count {
-                return any;
-            }
-            0
-        }
-    }
-}
-
-// Writes one of the messages that are held to a free place of the air.
-fn send(
-    book: Book,
-    store: &[u8; 42240],
-    air: &mut [u8],
-    ledger: &mut [u64; 2304],
-    stream: Stream,
-    dice: Dice,
-    step: u64,
-) -> Book {
-    let roll = dice.roll(stream.number(), step % 16 + 100);
-    let rank = rank(gateway::held(book, stream.line, stream.channel), roll);
-    let place = air::free(ledger);
-    let at = place % 1024 * 144;
-    if rank == 32 {
-        return book;
-    }
-    if air.len() < at + 144 {
-        return book;
-    }
-    let gave = gateway::send(
-        book,
-        store,
-        stream.line,
-        stream.channel,
-        rank,
-        &mut air[at..at + 144],
-    );
-    let answer = gave.answer;
-    air::launch(air, ledger, place, answer, stream, dice);
-    gave.book
-}
-
-// Writes an empty packet to a free place of the air: acknowledgements and base news.
-fn empty(book: Book, air: &mut [u8], ledger: &mut [u64; 2304], stream: Stream, dice: Dice) -> Book {
-    let place = air::free(ledger);
-    let at = place % 1024 * 144;
-    if air.len() < at + 144 {
-        return book;
-    }
-    let gave = gateway::empty(book, stream.line, stream.channel, &mut air[at..at + 144]);
-    let answer = gave.answer;
-    air::launch(air, ledger, place, answer, stream, dice);
-    gave.book
 }
 
 // Of 256 times, how often a line's own program fetches a message. That of line 1 is slow.
-fn pace(line: u8) -> u64 {
-    if line == 1 {
-        return 12;
-    }
-    200
+fn pace(line: u8) -> u8 {
+    if line == 1 { 12 } else { 200 }
 }
 
-// Counts a message that was handed out, as the one that was taken or as another.
-fn compare(ledger: &mut [u64; 2304], stream: Stream, message: &[u8]) {
-    let k = stream.count(ledger, tally::HANDED);
-    if counts::agrees(stream.number(), k, message) {
-        stream.add(ledger, tally::HANDED, 1);
-        return;
+impl Station {
+    // Reads what arrives in a turn, and does the turn's work.
+    pub fn serve(&mut self, world: &mut World) -> Result<(), AllocError> {
+        self.read_arrivals(world)?;
+        self.work(world)
     }
-    stream.add(ledger, tally::WRONG, 1);
-}
 
-// Counts a message that was handed out, if one was.
-fn note_handed(ledger: &mut [u64; 2304], stream: Stream, out: &[u8], answer: WriteAnswer) {
-    match answer {
-        WriteAnswer::Refused(_) => {}
-        WriteAnswer::Wrote(size) => {
-            if size <= out.len() {
-                compare(ledger, stream, &out[0..size]);
+    fn read_arrivals(&mut self, world: &mut World) -> Result<(), AllocError> {
+        for packet in world.landing(self.end)? {
+            let tally = world.ledger.of_mut(packet.stream);
+            tally.note_arrived(packet.serial);
+            if self.arrive(&packet.octets).is_err() {
+                tally.note_refused();
             }
         }
+        Ok(())
     }
-}
 
-// Hands out the next message of a stream, and holds it against the one that was taken.
-fn hand_out(
-    book: Book,
-    store: &[u8; 42240],
-    ledger: &mut [u64; 2304],
-    stream: Stream,
-    dice: Dice,
-    step: u64,
-) -> Book {
-    if pace(stream.line) <= dice.roll(stream.number(), step % 16 + 200) {
-        return book;
+    // Four steps of each of the eight streams that this end sends.
+    fn work(&mut self, world: &mut World) -> Result<(), AllocError> {
+        for line in 0..LINES {
+            for channel in [Channel::One, Channel::Two] {
+                let stream = Stream::new(self.end, line, channel);
+                for step in 0..STEPS {
+                    self.step(world, stream, step)?;
+                }
+            }
+        }
+        Ok(())
     }
-    let mut message = [0u8; 132];
-    let gave = gateway::hand_out(book, store, stream.line, stream.channel, &mut message);
-    let answer = gave.answer;
-    note_handed(ledger, stream, &message, answer);
-    gave.book
-}
 
-// Writes what a step lets out: a held message, and in a turn's first step an empty packet too.
-fn write(
-    mut book: Book,
-    store: &[u8; 42240],
-    air: &mut [u8],
-    ledger: &mut [u64; 2304],
-    stream: Stream,
-    dice: Dice,
-    step: u64,
-) -> Book {
-    book = send(book, store, air, ledger, stream, dice, step);
-    if step != 0 {
-        return book;
+    // One step of a stream; what comes back on its channel is handed out. An empty packet is written in a turn's first step only.
+    fn step(&mut self, world: &mut World, stream: Stream, step: u8) -> Result<(), AllocError> {
+        if world.ledger.is_done_both_ways(stream) {
+            return Ok(());
+        }
+        self.take_next(world, stream)?;
+        self.fetch(world, stream.back(), step)?;
+        self.write_held(world, stream, step)?;
+        if step == 0 {
+            self.write_empty(world, stream)?;
+        }
+        Ok(())
     }
-    empty(book, air, ledger, stream, dice)
-}
 
-// One step of a stream at the end that sends it; what comes back on its channel is handed out.
-fn step(
-    mut book: Book,
-    store: &mut [u8; 42240],
-    air: &mut [u8],
-    ledger: &mut [u64; 2304],
-    stream: Stream,
-    dice: Dice,
-    step: u64,
-) -> Book {
-    if stream.pair_done(ledger) {
-        return book;
+    // Takes the next message of a stream, if one is left and its channel has room.
+    fn take_next(&mut self, world: &mut World, stream: Stream) -> Result<(), AllocError> {
+        let tally = world.ledger.of_mut(stream);
+        if tally.asked <= tally.taken {
+            return Ok(());
+        }
+        let message = Message::of(stream, tally.taken).octets(world.alloc)?;
+        if self.take(stream, &message).is_ok() {
+            tally.note_taken(message.len() as u64);
+        }
+        Ok(())
     }
-    book = take(book, store, ledger, stream);
-    book = hand_out(book, store, ledger, stream.back(), dice, step);
-    write(book, store, air, ledger, stream, dice, step)
-}
 
-// A turn of one end: four steps of each of its eight streams.
-fn work(
-    mut book: Book,
-    store: &mut [u8; 42240],
-    air: &mut [u8],
-    ledger: &mut [u64; 2304],
-    end: u8,
-    dice: Dice,
-) -> Book {
-    let mut i = 0u64;
-    while i < 32 {
-        let stream = Stream::of((end % 2) as u64 * 8 + i / 4);
-        book = step(book, store, air, ledger, stream, dice, i % 4);
-        i += 1;
+    // Hands out the next message of a stream, and holds it against the one that was taken.
+    fn fetch(&mut self, world: &mut World, stream: Stream, step: u8) -> Result<(), AllocError> {
+        if pace(stream.line) <= world.dice.roll(stream, Purpose::Fetch(step)) {
+            return Ok(());
+        }
+        if let Some(octets) = self.hand_out(world.alloc, stream)? {
+            let tally = world.ledger.of_mut(stream);
+            let right = Message::of(stream, tally.handed_out).says(&octets);
+            tally.note_handed_out(right);
+        }
+        Ok(())
     }
-    book
-}
 
-// Gives the packet at a place of the air to an end, if it is for that end and due.
-fn arrive(
-    book: Book,
-    store: &mut [u8; 42240],
-    air: &[u8],
-    ledger: &mut [u64; 2304],
-    end: u8,
-    turn: u64,
-    place: usize,
-) -> Book {
-    let size = air::landing(ledger, place, end, turn);
-    let from = place % air::PLACES * 144;
-    let to = from + size % 145;
-    if size == 0 {
-        return book;
+    // Writes one of the messages that are held.
+    fn write_held(
+        &mut self,
+        world: &mut World,
+        stream: Stream,
+        step: u8,
+    ) -> Result<(), AllocError> {
+        let held = self.held(stream).unwrap_or(0);
+        let roll = world.dice.roll(stream, Purpose::Rank(step));
+        let Some(rank) = rank(held, roll) else {
+            return Ok(());
+        };
+        match self.send(world.alloc, stream, rank)? {
+            Some(octets) => world.launch(stream, octets),
+            None => Ok(()),
+        }
     }
-    if air.len() < to {
-        return book;
-    }
-    let came = gateway::arrive(book, store, &air[from..to]);
-    let answer = came.answer;
-    air::note_arrived(ledger, place, answer);
-    came.book
-}
 
-// All packets that arrive at one end in this turn.
-fn arrivals(
-    mut book: Book,
-    store: &mut [u8; 42240],
-    air: &[u8],
-    ledger: &mut [u64; 2304],
-    end: u8,
-    turn: u64,
-) -> Book {
-    let mut place = 0;
-    while place < air::PLACES {
-        book = arrive(book, store, air, ledger, end, turn, place);
-        place += 1;
+    // Writes an empty packet: acknowledgements and base news.
+    fn write_empty(&mut self, world: &mut World, stream: Stream) -> Result<(), AllocError> {
+        match self.empty(world.alloc, stream)? {
+            Some(octets) => world.launch(stream, octets),
+            None => Ok(()),
+        }
     }
-    book
-}
-
-// One end reads what arrives in a turn, and does its work.
-pub fn serve(
-    mut book: Book,
-    store: &mut [u8; 42240],
-    air: &mut [u8],
-    ledger: &mut [u64; 2304],
-    end: u8,
-    dice: Dice,
-) -> Book {
-    book = arrivals(book, store, air, ledger, end, dice.turn);
-    work(book, store, air, ledger, end, dice)
 }

@@ -3,175 +3,122 @@
 // opens again while its first identifier rests. The night is worked out from a seed: `night SEED`, or one of its own.
 #![tactic(auto)]
 
-use dice::Dice;
+use clock::Turn;
+use std::alloc::{AllocError, Global};
 use std::env::FillError;
-use std::io;
 use std::rt::Env;
+use std::{io, str};
 use story::Ends;
-use tally::Stream;
-use words::Number;
+use stream::LINES;
+use world::World;
 
 mod air; // air.rt: the link
-mod counts; // counts.rt: what each message says
+mod clock; // clock.rt: the turns of the night
 mod dice; // dice.rt: chance, by the seed
-mod ends; // ends.rt: the program at one end
+mod ends; // ends.rt: what the gateway at one end does in a turn
+mod message; // message.rt: what each message says
 mod paper; // paper.rt: what is printed
+mod station; // station.rt: the gateway at one end, and its calls
 mod story; // story.rt: opening, modes, recovery, closing
+mod stream; // stream.rt: the ends, and what each sends the other
 mod tally; // tally.rt: what is counted
+mod world; // world.rt: what the ends share
 
-// A turn is three seconds of the night.
-const TURN: u64 = 3000;
+// Every how many turns a bar says how far the night has come.
+const BAR: u16 = 500;
 
-// No night is longer: it ends when all is handed out, or here.
-const LONGEST: u64 = 20000;
+// The seed of the night that is run where none is named.
+const SEED: u64 = 20030113;
 
-// How many messages a stream is asked to carry on one call: on channel 1 of line 0 so many that their numbers begin again.
-fn asked(stream: Stream) -> u64 {
-    if (stream.line == 0) & (stream.channel == 1) {
-        return 17000;
-    }
-    if stream.line == 1 {
-        return 700;
-    }
-    if stream.channel == 1 {
-        return 2000;
-    }
-    500
-}
-
-// Asks a stream for one call's messages.
-fn ask_of(ledger: &mut [u64; 2304], stream: Stream) {
-    stream.add(ledger, tally::ASKED, asked(stream));
-}
-
-// Asks the four streams of a line for one call's messages.
-fn ask(ledger: &mut [u64; 2304], line: u8) {
-    ask_of(ledger, Stream::at_end(0, line, 1));
-    ask_of(ledger, Stream::at_end(0, line, 2));
-    ask_of(ledger, Stream::at_end(1, line, 1));
-    ask_of(ledger, Stream::at_end(1, line, 2));
-}
-
-// Asks all lines for one call's messages.
-fn ask_all(ledger: &mut [u64; 2304]) {
-    ask(ledger, 0);
-    ask(ledger, 1);
-    ask(ledger, 2);
-    ask(ledger, 3);
-}
-
-// Both ends do a turn's work.
-fn carry(
+#[derive(Drop)]
+struct Night {
     ends: Ends,
-    a: &mut [u8; 42240],
-    b: &mut [u8; 42240],
-    air: &mut [u8],
-    ledger: &mut [u64; 2304],
-    dice: Dice,
-) -> Ends {
-    let site = ends::serve(ends.site, a, air, ledger, 0, dice);
-    let office = ends::serve(ends.office, b, air, ledger, 1, dice);
-    Ends { site, office }
+    world: World,
 }
 
-// Every 500 turns a bar says how far the night has come.
-fn tell(rt: &impl Print, ledger: &[u64; 2304], turn: u64, time: u64) -> io::Result<()> {
-    if turn % 500 == 0 {
-        paper::progress(rt, ledger, time)?;
+impl Night {
+    fn new(alloc: Global, seed: u64) -> Result<Night, AllocError> {
+        Ok(Night {
+            ends: Ends::new(alloc)?,
+            world: World::new(alloc, seed)?,
+        })
     }
-    Ok(())
-}
 
-// Line 3 begins its second call once its first is done.
-fn call_again(
-    rt: &impl Print,
-    ends: Ends,
-    ledger: &mut [u64; 2304],
-    time: u64,
-) -> io::Result<Ends> {
-    if !(tally::line_done(ledger, 3) & story::first_call(ends.site)) {
-        return Ok(ends);
+    // Line 3 begins its second call once its first is done.
+    fn call_again(&mut self, rt: &impl Print) -> io::Result<()> {
+        if !(self.world.ledger.is_line_done(3) && self.ends.is_first_call()) {
+            return Ok(());
+        }
+        self.world.ledger.ask(3);
+        let turn = self.world.dice.turn;
+        self.ends.call_again(rt, turn, &mut self.world.ledger)
     }
-    ask(ledger, 3);
-    story::again(rt, ends, time, ledger)
-}
 
-// One turn.
-fn turn(
-    rt: &impl Print,
-    mut ends: Ends,
-    a: &mut [u8; 42240],
-    b: &mut [u8; 42240],
-    air: &mut [u8],
-    ledger: &mut [u64; 2304],
-    dice: Dice,
-) -> io::Result<Ends> {
-    let time = dice.turn % 65536 * TURN;
-    ends = carry(ends, a, b, air, ledger, dice);
-    tell(rt, ledger, dice.turn, time)?;
-    ends = story::turn(rt, ends, dice.turn, time)?;
-    call_again(rt, ends, ledger, time)
-}
-
-// All lines close.
-fn end(rt: &impl Print, mut ends: Ends, ledger: &mut [u64; 2304], time: u64) -> io::Result<()> {
-    paper::progress(rt, ledger, time)?;
-    ends = story::hang_up(rt, ends, 0, time, ledger)?;
-    ends = story::hang_up(rt, ends, 1, time, ledger)?;
-    ends = story::hang_up(rt, ends, 2, time, ledger)?;
-    story::hang_up(rt, ends, 3, time, ledger)?;
-    Ok(())
-}
-
-// The whole night, to the lines' end.
-fn run(
-    rt: &impl Print,
-    seed: u64,
-    a: &mut [u8; 42240],
-    b: &mut [u8; 42240],
-    air: &mut [u8],
-    ledger: &mut [u64; 2304],
-) -> io::Result<()> {
-    let fresh = gateway::fresh();
-    let mut ends = Ends {
-        site: fresh,
-        office: fresh,
-    };
-    let mut now = 0u64;
-    while now < LONGEST && !tally::all_done(ledger) {
-        ends = turn(rt, ends, a, b, air, ledger, Dice { seed, turn: now })?;
-        now += 1;
+    // One turn.
+    fn turn(&mut self, rt: &impl Print) -> io::Result<()> {
+        let turn = self.world.dice.turn;
+        self.ends.site.serve(&mut self.world)?;
+        self.ends.office.serve(&mut self.world)?;
+        if turn.0 % BAR == 0 {
+            paper::progress(rt, turn, &self.world.ledger)?;
+        }
+        self.ends.turn(rt, turn)?;
+        self.call_again(rt)
     }
-    end(rt, ends, ledger, now % 65536 * TURN)
+
+    // All lines close.
+    fn end(&mut self, rt: &impl Print) -> io::Result<()> {
+        let turn = self.world.dice.turn;
+        paper::progress(rt, turn, &self.world.ledger)?;
+        for line in 0..LINES {
+            self.ends.hang_up(rt, turn, line, &mut self.world.ledger)?;
+        }
+        Ok(())
+    }
+
+    // The whole night, to the lines' end.
+    fn run(&mut self, rt: &impl Print) -> io::Result<()> {
+        for turn in 0..=Turn::LAST {
+            self.world.dice.turn = Turn(turn);
+            if turn == Turn::LAST || self.world.ledger.is_all_done() {
+                break;
+            }
+            self.turn(rt)?;
+        }
+        self.end(rt)
+    }
+}
+
+// A number: decimal digits, with no sign.
+fn number(text: &[u8]) -> Option<u64> {
+    if !text.iter().all(|octet| octet.is_ascii_digit()) {
+        return None;
+    }
+    str::from_utf8(text).ok()?.parse().ok()
 }
 
 // The seed that the program was started with, or its own.
-fn seed(rt: &impl Env) -> Number {
+fn seed(rt: &impl Env) -> Option<u64> {
     let mut text = [0u8; 20];
     match rt.arg(1, &mut text) {
-        Ok(count) => words::read_number(&text[..count]),
-        Err(FillError::NotPresent) => Number::Says(20030113),
-        Err(FillError::TooLong) => Number::Nothing,
+        Ok(count) => number(&text[..count]),
+        Err(FillError::NotPresent) => Some(SEED),
+        Err(FillError::TooLong) => None,
     }
 }
 
 // A night of that seed.
-fn night(rt: &impl Print, seed: u64) -> io::Result<()> {
-    let mut a = [0u8; 42240];
-    let mut b = [0u8; 42240];
-    let mut air = [0u8; 73872];
-    let mut ledger = [0u64; 2304];
+fn run(rt: &impl Print, alloc: Global, seed: u64) -> io::Result<()> {
+    let mut night = Night::new(alloc, seed)?;
     paper::title(rt, seed)?;
-    ask_all(&mut ledger);
-    run(rt, seed, &mut a, &mut b, &mut air, &mut ledger)?;
-    paper::table(rt, &ledger)?;
-    paper::verdict(rt, &ledger)
+    night.run(rt)?;
+    paper::table(rt, &night.world.ledger)?;
+    paper::verdict(rt, &night.world.ledger)
 }
 
 fn main(rt: HostRuntime) -> io::Result<()> {
-    let asked = seed(&rt);
-    match asked {
-        Number::Says(n) => night(&rt, n),
-        Number::Nothing => rt.write_all(b"night: the seed is a number of at most 20 digits\n"),
+    match seed(&rt) {
+        Some(seed) => run(&rt, rt.alloc(), seed),
+        None => println!(rt; "night: the seed is a number of at most 20 digits"),
     }
 }

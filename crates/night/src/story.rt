@@ -1,272 +1,179 @@
-// What happens to the lines in the night, besides the messages: they open, meet in modem relay, recover, and close. The calls stand
-// in functions of one book, and what is told of them in functions of none.
-use crate::tally::Stream;
-use crate::{paper, tally};
-use book::Book;
-use ground::Verdict;
-use line::Settings;
-use mode::{Modes, TickAnswer};
-use slip::Reading;
+// What happens to the lines in the night, besides the messages: they open, meet in modem relay, recover, and close.
+ghost use Rattle.std.specs.Prelude.{◌<◌};
+
+use crate::clock::Turn;
+use crate::paper::Event;
+use crate::station::Station;
+use crate::stream::{Channel, End, LINES, Stream};
+use crate::tally::Ledger;
+use crate::{paper, station};
+use mode::Modes;
+use std::alloc::{AllocError, Global};
 use std::io;
 
-// The two gateways' books.
+// The identifier of line 0; those of lines 1 to 3 on their first calls come after it.
+const IDENTIFIER: u8 = 17;
+
+// The identifier of line 3 on its first call and on its second.
+const FIRST: u8 = IDENTIFIER + 3;
+
+const SECOND: u8 = IDENTIFIER + 4;
+
+// What a turn has in store for the lines.
 #[derive(Clone, Copy)]
-pub struct Ends {
-    pub site: Book,
-    pub office: Book,
+enum Dialling {
+    // All lines open.
+    Open,
+    // A line goes to modem relay.
+    Meet(u8),
+    // The site goes to voiceband data on a line, and nobody tells the office.
+    Part(u8),
+    Nothing,
 }
 
-const SITE: u8 = 0;
+impl Dialling {
+    // Line 2 begins badly.
+    fn in_turn(turn: Turn) -> Dialling {
+        match turn.0 {
+            0 => Dialling::Open,
+            1 => Dialling::Meet(0),
+            2 => Dialling::Meet(1),
+            3 => Dialling::Part(2),
+            4 => Dialling::Meet(3),
+            8 => Dialling::Meet(2),
+            _ => Dialling::Nothing,
+        }
+    }
+}
 
-const OFFICE: u8 = 1;
-
-// The identifier of line 3 on its first call and on its second. Lines 0 to 2 have 17 to 19.
-const FIRST: u8 = 20;
-
-const SECOND: u8 = 21;
-
-// No line.
-const NONE: u8 = 4;
-
-// What opening a line with an identifier is answered, and leaves.
-fn opening(book: Book, line: u8, identifier: u8, time: u64) -> gateway::Opened {
-    let settings = Settings {
-        identifier,
-        kind: 98,
-        vbd: true,
-        relay: true,
+// Closes a line at one end, and shows its slip. What it says was handed out there is counted for the other end, which had sent it.
+fn close(rt: &impl Print, station: &mut Station, line: u8, ledger: &mut Ledger) -> io::Result<()>
+    requires { line < 4 }
+{
+    let Ok(octets) = station.close(line) else {
+        return Ok(());
     };
-    gateway::open(book, line, settings, time)
-}
-
-// An end opens a line.
-fn open(book: Book, line: u8, identifier: u8, time: u64) -> Book {
-    let opened = opening(book, line, identifier, time);
-    opened.book
-}
-
-// An end requests a mode of a line.
-fn ask(book: Book, line: u8, mode: u8, time: u64) -> Book {
-    let asks = gateway::ask(book, line, mode, time);
-    asks.book
-}
-
-// An end hears of the other's mode.
-fn hear(book: Book, line: u8, mode: u8, time: u64) -> Book {
-    let hears = gateway::hear(book, line, mode, time);
-    hears.book
-}
-
-// A line goes to modem relay: the site requests it, the office hears of it, and the site hears of that.
-fn meet(mut book: Book, end: u8, line: u8, time: u64) -> Book {
-    if end == SITE {
-        book = ask(book, line, Modes::MODEM, time);
+    if let Ok(slip) = slip::read(&octets) {
+        let from = station.end.other();
+        let first = Stream::new(from, line, Channel::One);
+        let second = Stream::new(from, line, Channel::Two);
+        ledger.of_mut(first).note_slip(slip.count1);
+        ledger.of_mut(second).note_slip(slip.count2);
     }
-    hear(book, line, Modes::MODEM, time)
+    paper::slip(rt, line, station.end, &octets)
 }
 
-// An end opens all lines.
-fn open_all(mut book: Book, time: u64) -> Book {
-    book = open(book, 0, 17, time);
-    book = open(book, 1, 18, time);
-    book = open(book, 2, 19, time);
-    open(book, 3, FIRST, time)
+#[derive(Drop)]
+pub struct Ends {
+    pub site: Station,
+    pub office: Station,
 }
 
-// The line that meets in modem relay in a turn.
-fn meeting(turn: u64) -> u8 {
-    match turn {
-        1 => 0,
-        2 => 1,
-        4 => 3,
-        8 => 2,
-        _ => NONE,
+impl Ends {
+    pub fn new(alloc: Global) -> Result<Ends, AllocError> {
+        Ok(Ends {
+            site: Station::new(alloc, End::Site)?,
+            office: Station::new(alloc, End::Office)?,
+        })
     }
-}
 
-// The dialling: what a turn has in store for the lines at one end. Line 2 begins badly: the site goes to voiceband data, and nobody
-// tells the office.
-fn dial(book: Book, end: u8, turn: u64, time: u64) -> Book {
-    let line = meeting(turn);
-    if line != NONE {
-        return meet(book, end, line, time);
+    // Both ends open a line.
+    fn open(&mut self, line: u8, identifier: u8, time: u64) {
+        let _ = self.site.open(line, identifier, time);
+        let _ = self.office.open(line, identifier, time);
     }
-    match turn {
-        0 => open_all(book, time),
-        3 => part(book, end, time),
-        _ => book,
+
+    // A line goes to modem relay: the site requests it, the office hears of it, and the site hears of that.
+    fn meet(&mut self, line: u8, time: u64) {
+        self.site.ask(line, Modes::MODEM, time);
+        self.office.hear(line, Modes::MODEM, time);
+        self.site.hear(line, Modes::MODEM, time);
     }
-}
 
-// The site goes to voiceband data on line 2.
-fn part(book: Book, end: u8, time: u64) -> Book {
-    if end != SITE {
-        return book;
+    fn dial(&mut self, rt: &impl Print, turn: Turn) -> io::Result<()> {
+        let time = turn.time();
+        match Dialling::in_turn(turn) {
+            Dialling::Open => {
+                for line in 0..LINES {
+                    self.open(line, IDENTIFIER + line, time);
+                }
+                Ok(())
+            }
+            Dialling::Meet(line) => {
+                self.meet(line, time);
+                paper::tell(rt, turn, line, Event::Met)
+            }
+            Dialling::Part(line) => {
+                self.site.ask(line, Modes::VOICEBAND, time);
+                paper::tell(rt, turn, line, Event::Parted)
+            }
+            Dialling::Nothing => Ok(()),
+        }
     }
-    ask(book, 2, Modes::VOICEBAND, time)
-}
 
-// Tells of the dialling.
-fn tell_dialling(rt: &impl Print, turn: u64, time: u64) -> io::Result<()> {
-    let line = meeting(turn);
-    if line != NONE {
-        paper::event(rt, time, line, paper::MET)?;
+    // Tells a line the time at both ends. The first two audio indications are lost; the third is heard, and answered by audio.
+    fn tick(&mut self, rt: &impl Print, turn: Turn, line: u8) -> io::Result<()> {
+        let time = turn.time();
+        let due = self.site.tick(line, time);
+        self.office.tick(line, time);
+        match due {
+            None => Ok(()),
+            Some(1 | 2) => paper::tell(rt, turn, line, Event::Unheard),
+            Some(_) => {
+                self.site.hear(line, Modes::AUDIO, time);
+                self.office.hear(line, Modes::AUDIO, time);
+                paper::tell(rt, turn, line, Event::Recovered)
+            }
+        }
     }
-    if turn == 3 {
-        paper::event(rt, time, 2, paper::PARTED)?;
+
+    // What happens to the lines in a turn: they dial, and are told the time.
+    pub fn turn(&mut self, rt: &impl Print, turn: Turn) -> io::Result<()> {
+        self.dial(rt, turn)?;
+        for line in 0..LINES {
+            self.tick(rt, turn, line)?;
+        }
+        Ok(())
     }
-    Ok(())
-}
 
-// Which audio indication is due; 0 where none is.
-fn indication(answer: TickAnswer) -> u8 {
-    if let TickAnswer::Audio(n) = answer {
-        return n;
+    // Closes a line at both ends.
+    pub fn hang_up(
+        &mut self,
+        rt: &impl Print,
+        turn: Turn,
+        line: u8,
+        ledger: &mut Ledger,
+    ) -> io::Result<()>
+        requires { line < 4 }
+    {
+        paper::tell(rt, turn, line, Event::Closed)?;
+        close(rt, &mut self.site, line, ledger)?;
+        close(rt, &mut self.office, line, ledger)
     }
-    0
-}
 
-// The first two audio indications are lost; the third is heard, and answered by audio.
-fn tell_recovery(rt: &impl Print, line: u8, indication: u8, time: u64) -> io::Result<()> {
-    match indication {
-        0 => Ok(()),
-        1 | 2 => paper::event(rt, time, line, paper::UNHEARD),
-        _ => paper::event(rt, time, line, paper::RECOVERED),
+    // Is line 3 in its first call?
+    pub fn is_first_call(&self) -> bool {
+        self.site.identifier(3) == FIRST
     }
-}
 
-// Recovery at one end.
-fn recover(book: Book, line: u8, indication: u8, time: u64) -> Book {
-    if indication < 3 {
-        return book;
+    // Line 3 has carried its first call's messages: it closes, its identifier rests, so that opening with it is refused, and it
+    // opens again with another one.
+    pub fn call_again(
+        &mut self,
+        rt: &impl Print,
+        turn: Turn,
+        ledger: &mut Ledger,
+    ) -> io::Result<()> {
+        let time = turn.time();
+        self.hang_up(rt, turn, 3, ledger)?;
+        let tried = match self.site.open(3, FIRST, time) {
+            Ok(()) => Event::OpenedResting,
+            Err(_) => Event::Rests(FIRST),
+        };
+        paper::tell(rt, turn, 3, tried)?;
+        self.open(3, SECOND, time);
+        paper::tell(rt, turn, 3, Event::Opened(SECOND))?;
+        self.meet(3, time);
+        paper::tell(rt, turn, 3, Event::Met)
     }
-    hear(book, line, Modes::AUDIO, time)
-}
-
-// Tells a line the time at both ends.
-fn tick(rt: &impl Print, ends: Ends, line: u8, time: u64) -> io::Result<Ends> {
-    let at_site = gateway::tick(ends.site, line, time);
-    let answer = at_site.answer;
-    let due = indication(answer);
-    tell_recovery(rt, line, due, time)?;
-    let at_office = gateway::tick(ends.office, line, time);
-    let site = recover(at_site.book, line, due, time);
-    let office = recover(at_office.book, line, due, time);
-    Ok(Ends { site, office })
-}
-
-// Both ends dial.
-fn dial_both(ends: Ends, turn: u64, time: u64) -> Ends {
-    let site = dial(ends.site, SITE, turn, time);
-    let office = dial(ends.office, OFFICE, turn, time);
-    Ends { site, office }
-}
-
-// What happens to the lines in a turn: they dial, and are told the time.
-pub fn turn(rt: &impl Print, mut ends: Ends, turn: u64, time: u64) -> io::Result<Ends> {
-    ends = dial_both(ends, turn, time);
-    tell_dialling(rt, turn, time)?;
-    ends = tick(rt, ends, 0, time)?;
-    ends = tick(rt, ends, 1, time)?;
-    ends = tick(rt, ends, 2, time)?;
-    tick(rt, ends, 3, time)
-}
-
-// Notes what a slip of an end says was handed out there, which the other end had sent.
-fn note(ledger: &mut [u64; 2304], slip: &[u8], line: u8, end: u8) {
-    let reading = slip::read(slip);
-    if let Reading::Says(s) = reading {
-        let first = Stream::at_end(1 - end % 2, line, 1);
-        let second = Stream::at_end(1 - end % 2, line, 2);
-        first.add(ledger, tally::SLIP, s.count1 as u64);
-        second.add(ledger, tally::SLIP, s.count2 as u64);
-    }
-}
-
-// Keeps a slip of an end, and shows it.
-fn keep(
-    rt: &impl Print,
-    ledger: &mut [u64; 2304],
-    slip: &[u8],
-    line: u8,
-    end: u8,
-) -> io::Result<()> {
-    note(ledger, slip, line, end);
-    paper::slip(rt, slip, line, end)
-}
-
-// Closes a line at one end, and keeps its slip.
-fn close(
-    rt: &impl Print,
-    book: Book,
-    line: u8,
-    end: u8,
-    ledger: &mut [u64; 2304],
-) -> io::Result<Book> {
-    let mut slip = [0u8; 12];
-    let gave = gateway::close(book, line, &mut slip);
-    keep(rt, ledger, &slip, line, end)?;
-    Ok(gave.book)
-}
-
-// Closes a line at both ends.
-pub fn hang_up(
-    rt: &impl Print,
-    ends: Ends,
-    line: u8,
-    time: u64,
-    ledger: &mut [u64; 2304],
-) -> io::Result<Ends> {
-    paper::event(rt, time, line, paper::CLOSED)?;
-    let site = close(rt, ends.site, line, SITE, ledger)?;
-    let office = close(rt, ends.office, line, OFFICE, ledger)?;
-    Ok(Ends { site, office })
-}
-
-// Is line 3 in its first call?
-pub fn first_call(site: Book) -> bool {
-    let line = site.line(3);
-    line.identifier == FIRST
-}
-
-// Tells that opening with an identifier that rests is refused.
-fn tell_refusal(rt: &impl Print, answer: Verdict, time: u64) -> io::Result<()> {
-    match answer {
-        Verdict::Pass => paper::event(rt, time, 3, paper::UNRESTED),
-        Verdict::Refuse(_) => paper::event(rt, time, 3, paper::RESTS),
-    }
-}
-
-// The site tries to open line 3 with its first identifier.
-fn try_first(rt: &impl Print, site: Book, time: u64) -> io::Result<()> {
-    let tried = opening(site, 3, FIRST, time);
-    let answer = tried.answer;
-    tell_refusal(rt, answer, time)
-}
-
-// An end opens line 3 with another identifier.
-fn renew(mut book: Book, end: u8, time: u64) -> Book {
-    book = open(book, 3, SECOND, time);
-    meet(book, end, 3, time)
-}
-
-// Tells that line 3 is open again.
-fn tell_renewal(rt: &impl Print, time: u64) -> io::Result<()> {
-    paper::event(rt, time, 3, paper::RENEWED)?;
-    paper::event(rt, time, 3, paper::MET)
-}
-
-// Line 3 has carried its first call's messages: it closes, its identifier rests, and it opens again with another one.
-pub fn again(
-    rt: &impl Print,
-    mut ends: Ends,
-    time: u64,
-    ledger: &mut [u64; 2304],
-) -> io::Result<Ends> {
-    ends = hang_up(rt, ends, 3, time, ledger)?;
-    try_first(rt, ends.site, time)?;
-    tell_renewal(rt, time)?;
-    let site = renew(ends.site, SITE, time);
-    let office = renew(ends.office, OFFICE, time);
-    Ok(Ends { site, office })
 }

@@ -1,138 +1,163 @@
-// What is counted of each stream: the messages that one end sends to the other on one channel of one line. There are 16. The counts
-// stand at the front of a ledger; behind them are the notes of the packets in the air.
-#[derive(Clone, Copy)]
-pub struct Stream {
-    // The end that sends: 0 the site, 1 the office.
-    pub end: u8,
-    pub line: u8,
-    pub channel: u8,
+// What is counted of each stream.
+ghost use Rattle.std.specs.Prelude.{◌<◌};
+
+use crate::stream::{Channel, LINES, STREAMS, Stream};
+
+#[derive(Clone, Copy, Default)]
+pub struct Tally {
+    // How many messages are to be carried, were taken, were handed out as they were taken, and were so by the slips.
+    pub asked: u64,
+    pub taken: u64,
+    pub handed_out: u64,
+    pub by_slip: u64,
+    // The octets taken.
+    pub octets: u64,
+    // Packets: written, lost, repeated and overtaken on the way, and refused where they arrived.
+    pub written: u64,
+    pub lost: u64,
+    pub repeated: u64,
+    pub overtaken: u64,
+    pub refused: u64,
+    // Messages handed out that are not the next of those taken, octet for octet.
+    pub wrong: u64,
+    // The latest packet that has arrived, counted as they were written.
+    latest: u64,
 }
 
-// How many messages are to be carried, were taken, were handed out as they were taken, and were so by the slips.
-pub const ASKED: usize = 0;
-
-pub const TAKEN: usize = 1;
-
-pub const HANDED: usize = 2;
-
-pub const SLIP: usize = 3;
-
-// The octets taken.
-pub const OCTETS: usize = 4;
-
-// Packets: written, lost, repeated and overtaken on the way, and refused where they arrived.
-pub const WRITTEN: usize = 5;
-
-pub const LOST: usize = 6;
-
-pub const REPEATED: usize = 7;
-
-pub const OVERTAKEN: usize = 8;
-
-pub const REFUSED: usize = 9;
-
-// Messages handed out that are not the next of those taken, octet for octet.
-pub const WRONG: usize = 10;
-
-// The latest packet that has arrived, counted as they were written.
-pub const LATEST: usize = 11;
-
-// How many numbers the counts of all streams are.
-pub const CELLS: usize = 256;
-
-impl Stream {
-    // What an end sends on a channel of a line.
-    pub fn at_end(end: u8, line: u8, channel: u8) -> Stream {
-        Stream { end, line, channel }
+// How many messages a stream is asked to carry on one call: on channel 1 of line 0 so many that their numbers begin again.
+fn asked(stream: Stream) -> u64 {
+    match (stream.line, stream.channel) {
+        (0, Channel::One) => 17000,
+        (1, _) => 700,
+        (_, Channel::One) => 2000,
+        (_, Channel::Two) => 500,
     }
+}
 
-    // The stream of a number below 16.
-    pub fn of(number: u64) -> Stream {
-        Stream {
-            end: (number / 8 % 2) as u8,
-            line: (number / 2 % 4) as u8,
-            channel: (number % 2) as u8 + 1,
-        }
-    }
+// No count of a night comes near its type's end.
+fn count(counter: &mut u64, n: u64) {
+    *counter = counter.saturating_add(n);
+}
 
-    pub fn number(self) -> u64 {
-        let end = (self.end % 2) as u64;
-        let line = (self.line % 4) as u64;
-        if self.channel == 2 {
-            return end * 8 + line * 2 + 1;
-        }
-        end * 8 + line * 2
-    }
-
-    // The stream of the other end.
-    pub fn back(self) -> Stream {
-        Stream {
-            end: 1 - self.end % 2,
-            ..self
-        }
-    }
-
-    // Where one of its counts lies.
-    fn at(self, kind: usize) -> usize {
-        (self.number() % 16 * 16) as usize + kind % 16
-    }
-
-    // One of its counts.
-    pub fn count(self, ledger: &[u64; 2304], kind: usize) -> u64 {
-        let i = self.at(kind);
-        if i < 2304 {
-            return ledger[i];
-        }
-        0
-    }
-
-    // Sets one of its counts.
-    pub fn set(self, ledger: &mut [u64; 2304], kind: usize, n: u64) {
-        let i = self.at(kind);
-        if i < 2304 {
-            ledger[i] = n;
-        }
-    }
-
-    // Adds to one of its counts. Counts stay below 2^32, which no night comes near.
-    pub fn add(self, ledger: &mut [u64; 2304], kind: usize, n: u64) {
-        let was = self.count(ledger, kind);
-        self.set(
-            ledger,
-            kind,
-            (was % 4294967296 + n % 4294967296) % 4294967296,
-        );
-    }
-
+impl Tally {
     // Is everything carried that was to be?
-    fn done(self, ledger: &[u64; 2304]) -> bool {
-        self.count(ledger, HANDED) == self.count(ledger, ASKED)
+    fn is_done(&self) -> bool {
+        self.handed_out == self.asked
     }
 
-    // Is it, both ways?
-    pub fn pair_done(self, ledger: &[u64; 2304]) -> bool {
-        self.done(ledger) & self.back().done(ledger)
+    // Are the slips, and what was taken, what was handed out?
+    pub fn agrees(&self) -> bool {
+        self.taken == self.handed_out && self.by_slip == self.handed_out
+    }
+
+    pub fn note_taken(&mut self, octets: u64) {
+        count(&mut self.taken, 1);
+        count(&mut self.octets, octets);
+    }
+
+    // Counts a message that was handed out, as the one that was taken or as another.
+    pub fn note_handed_out(&mut self, right: bool) {
+        if right {
+            count(&mut self.handed_out, 1);
+        } else {
+            count(&mut self.wrong, 1);
+        }
+    }
+
+    // Counts the messages that a slip says were handed out.
+    pub fn note_slip(&mut self, handed_out: u32) {
+        count(&mut self.by_slip, u64::from(handed_out));
+    }
+
+    // Counts a packet that was written, and answers which of its stream it is, from 1.
+    pub fn note_written(&mut self) -> u64 {
+        count(&mut self.written, 1);
+        self.written
+    }
+
+    pub fn note_lost(&mut self) {
+        count(&mut self.lost, 1);
+    }
+
+    pub fn note_repeated(&mut self) {
+        count(&mut self.repeated, 1);
+    }
+
+    // Counts a packet's arrival: it was overtaken if a later one of its stream came before it. A repetition has no serial number.
+    pub fn note_arrived(&mut self, serial: Option<u64>) {
+        match serial {
+            Some(serial) if self.latest < serial => self.latest = serial,
+            Some(_) => count(&mut self.overtaken, 1),
+            None => {}
+        }
+    }
+
+    pub fn note_refused(&mut self) {
+        count(&mut self.refused, 1);
     }
 }
 
-// A count over all streams.
-pub fn sum(ledger: &[u64; 2304], kind: usize) -> u64 {
-    let mut all = 0u64;
-    let mut i = 0u64;
-    while i < 16 {
-        let one = Stream::of(i).count(ledger, kind);
-        all = all % 4294967296 + one % 4294967296;
-        i += 1;
+// The tallies of all streams.
+#[derive(Clone, Copy, Default)]
+pub struct Ledger {
+    tallies: [Tally; STREAMS],
+}
+
+impl Ledger {
+    pub fn of(&self, stream: Stream) -> &Tally {
+        &self.tallies[stream.number()]
     }
-    all
-}
 
-// Is everything carried that was to be, on the four streams of a line?
-pub fn line_done(ledger: &[u64; 2304], line: u8) -> bool {
-    Stream::at_end(0, line, 1).pair_done(ledger) & Stream::at_end(0, line, 2).pair_done(ledger)
-}
+    pub fn of_mut(&mut self, stream: Stream) -> &mut Tally {
+        &mut self.tallies[stream.number()]
+    }
 
-// Is everything carried that was to be?
-pub fn all_done(ledger: &[u64; 2304]) -> bool {
-    line_done(ledger, 0) & line_done(ledger, 1) & line_done(ledger, 2) & line_done(ledger, 3)
+    // Asks the streams of a line for one call's messages.
+    pub fn ask(&mut self, line: u8)
+        requires { line < 4 }
+    {
+        for stream in Stream::of_line(line) {
+            count(&mut self.of_mut(stream).asked, asked(stream));
+        }
+    }
+
+    // Asks all lines for one call's messages.
+    pub fn ask_all(&mut self) {
+        for line in 0..LINES {
+            self.ask(line);
+        }
+    }
+
+    // Is everything carried that was to be, both ways of a stream?
+    pub fn is_done_both_ways(&self, stream: Stream) -> bool {
+        self.of(stream).is_done() && self.of(stream.back()).is_done()
+    }
+
+    // Is it, on the four streams of a line?
+    pub fn is_line_done(&self, line: u8) -> bool
+        requires { line < 4 }
+    {
+        Stream::of_line(line)
+            .iter()
+            .all(|stream| self.of(*stream).is_done())
+    }
+
+    // Is it, on all of them?
+    pub fn is_all_done(&self) -> bool {
+        self.tallies.iter().all(|tally| tally.is_done())
+    }
+
+    // A count over all streams.
+    pub fn total<F: Fn(&Tally) -> u64>(&self, count: F) -> u64
+        requires { F.IsAlwaysCallable count }
+    {
+        self.tallies
+            .iter()
+            .fold(0, |sum: u64, tally| sum.saturating_add(count(tally)))
+    }
+
+    // Is all as it has to be?
+    pub fn is_right(&self) -> bool {
+        self.tallies.iter().all(|tally| tally.is_done() && tally.agrees() && tally.wrong == 0)
+    }
 }

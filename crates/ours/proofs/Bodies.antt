@@ -4,9 +4,9 @@
 use Prim.Native.Nat.{ℕ}
 use mathlib.Core.Path.{◌≡◌, ap, ◌∙◌}
 use mathlib.Core.List.{List}
+use Rattle.std.specs.Prelude.{Result}
 use Rattle.ground.specs.Answer.{Writes, write_says, contents}
 use Rattle.ground.specs.Refusal.{Test, verdict}
-use Rattle.ground.specs.declared.WriteAnswer.{WriteAnswer}
 use Rattle.connect.specs.Read as connect
 use Rattle.connect.specs.contracts.read as connect_read
 use Rattle.connect.proofs.read.Reads as connect_read_reads
@@ -22,15 +22,16 @@ use Rattle.slip.specs.contracts.read as slip_read
 use Rattle.slip.proofs.read.Reads as slip_read_reads
 use Rattle.laws.specs.Contract.{Promises}
 use Rattle.promise.specs.Build.{Left, left_by, our_bodies}
+use Rattle.ground.specs.declared.Refusal.{Refusal}
 
 -- an answer and what an output holds then, as a build leaves them
-abbrev left : WriteAnswer → List ℕ → Left
+abbrev left : Result ℕ Refusal → List ℕ → Left
 left r out = record { answer = write_says r; out = out }
 
 -- what a writer's contract gives is what `left_by` says
-pub writes_left : (ts : List Test) (octets before after : List ℕ) (r : WriteAnswer) → Writes ts octets before after r → left r after ≡ left_by (verdict ts) octets before
+pub writes_left : (ts : List Test) (octets before after : List ℕ) (r : Result ℕ Refusal) → Writes ts octets before after r → left r after ≡ left_by (verdict ts) octets before
 writes_left ts octets before after r w =
-    ap (left r) w.leaves ∙ ap (λ (x : WriteAnswer). left x (contents x octets before)) w.gives.is
+    ap (left r) w.leaves ∙ ap (λ (x : Result ℕ Refusal). left x (contents x octets before)) w.gives.is
 
 -- CONNECT is read as `ours` reads it, and written as `ours` writes it
 pub connect_read_ours : Promises connect_read.ended connect_read_reads.Learnt (λ κs a x p. connect.answer_of x ≡ our_bodies.connect_read a.0.now)

@@ -10,7 +10,7 @@ use Rattle.mode.specs.Acts as act
 use Rattle.mode.specs.Says.{hear_says, ask_says, tick_says}
 use Rattle.book.specs.Book.{fresh_book}
 use Rattle.calls.specs.Call as call
-use Rattle.calls.specs.Result.{result_with}
+use Rattle.calls.specs.Result.{result_with, does}
 use Rattle.outgoing.specs.Says.{take_says, held_says}
 use Rattle.incoming.specs.Says.{arrive_says}
 use Rattle.gateway.specs.Says.{open_says}
@@ -47,38 +47,38 @@ fresh_ours κs a x p m = m
 
 -- opening and closing
 pub open_ours : Promises open.ended open_reads.Learnt (λ κs a x p. (store out : List ℕ)
-    → result_with (open_says x.answer) x.book store out ≡ ours.does (call.opening a.1.0 a.1.1.0 a.1.1.1.0) a.0 store out)
+    → does open_says a.0 x store out ≡ ours.does (call.opening a.1.0 a.1.1.0 a.1.1.1.0) a.0 store out)
 open_ours κs a x p m = m
 
 pub close_ours : Promises close.ended close_reads.Learnt (λ κs a x p. (store : List ℕ)
-    → result_with (write_says x.answer) x.book store p.1.1.0 ≡ ours.does (call.closing a.1.0) a.0 store a.1.1.0.now)
+    → does write_says a.0 x store p.1.1.0 ≡ ours.does (call.closing a.1.0) a.0 store a.1.1.0.now)
 close_ours κs a x p m = m
 
 -- the mode calls
 pub hear_ours : Promises hear.ended hear_reads.Learnt (λ κs a x p. (store out : List ℕ)
-    → result_with (hear_says x.answer) x.book store out ≡ ours.does (call.mode a.1.0 (act.hear a.1.1.0 a.1.1.1.0)) a.0 store out)
+    → does hear_says a.0 x store out ≡ ours.does (call.mode a.1.0 (act.hear a.1.1.0 a.1.1.1.0)) a.0 store out)
 hear_ours κs a x p m = m
 
 pub ask_ours : Promises ask.ended ask_reads.Learnt (λ κs a x p. (store out : List ℕ)
-    → result_with (ask_says x.answer) x.book store out ≡ ours.does (call.mode a.1.0 (act.ask a.1.1.0 a.1.1.1.0)) a.0 store out)
+    → does ask_says a.0 x store out ≡ ours.does (call.mode a.1.0 (act.ask a.1.1.0 a.1.1.1.0)) a.0 store out)
 ask_ours κs a x p m = m
 
 pub tick_ours : Promises tick.ended tick_reads.Learnt (λ κs a x p. (store out : List ℕ)
-    → result_with (tick_says x.answer) x.book store out ≡ ours.does (call.mode a.1.0 (act.tick a.1.1.0)) a.0 store out)
+    → does tick_says a.0 x store out ≡ ours.does (call.mode a.1.0 (act.tick a.1.1.0)) a.0 store out)
 tick_ours κs a x p m = m.0
 
 -- messages going out
 pub take_ours : Promises take.ended take_reads.Learnt (λ κs a x p. (out : List ℕ)
-    → result_with (take_says x.answer) x.book p.1.0 out ≡ ours.does (call.taking a.1.1.0 a.1.1.1.0 a.1.1.1.1.0.now) a.0 a.1.0.now out)
+    → does take_says a.0 x p.1.0 out ≡ ours.does (call.taking a.1.1.0 a.1.1.1.0 a.1.1.1.1.0.now) a.0 a.1.0.now out)
 take_ours κs a x p m = m
 
 pub send_ours : Promises send.ended send_reads.Learnt (λ κs a x p.
-    result_with (write_says x.answer) x.book a.1.0.now p.1.1.1.1.1.0
+    does write_says a.0 x a.1.0.now p.1.1.1.1.1.0
     ≡ ours.does (call.sending a.1.1.0 a.1.1.1.0 a.1.1.1.1.0) a.0 a.1.0.now a.1.1.1.1.1.0.now)
 send_ours κs a x p m = m
 
 pub empty_ours : Promises empty.ended empty_reads.Learnt (λ κs a x p. (store : List ℕ)
-    → result_with (write_says x.answer) x.book store p.1.1.1.0 ≡ ours.does (call.empty a.1.0 a.1.1.0) a.0 store a.1.1.1.0.now)
+    → does write_says a.0 x store p.1.1.1.0 ≡ ours.does (call.empty a.1.0 a.1.1.0) a.0 store a.1.1.1.0.now)
 empty_ours κs a x p m = m
 
 pub held_ours : Promises held.ended held_reads.Learnt (λ κs a x p. (store out : List ℕ)
@@ -87,10 +87,10 @@ held_ours κs a x p m = m
 
 -- messages coming in
 pub arrive_ours : Promises arrive.ended arrive_reads.Learnt (λ κs a x p. (out : List ℕ)
-    → result_with (arrive_says x.answer) x.book p.1.0 out ≡ ours.does (call.arrival a.1.1.0.now) a.0 a.1.0.now out)
+    → does arrive_says a.0 x p.1.0 out ≡ ours.does (call.arrival a.1.1.0.now) a.0 a.1.0.now out)
 arrive_ours κs a x p m = m
 
 pub hand_out_ours : Promises hand_out.ended hand_out_reads.Learnt (λ κs a x p.
-    result_with (write_says x.answer) x.book a.1.0.now p.1.1.1.1.0
+    does write_says a.0 x a.1.0.now p.1.1.1.1.0
     ≡ ours.does (call.hand_out a.1.1.0 a.1.1.1.0) a.0 a.1.0.now a.1.1.1.1.0.now)
 hand_out_ours κs a x p m = m

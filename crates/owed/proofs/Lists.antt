@@ -1,43 +1,26 @@
 -- Laws of lists that the owed list's steps cite, and of what stands in one once or twice.
 -- Assumes nothing.
-use Prim.Native.Nat.{ℕ, zero, suc, ◌+◌, ◌-◌, ◌≤◌, ◌<◌}
-use mathlib.Core.Path.{◌≡◌, refl, sym, ap, ap₂, ◌∙◌}
-use mathlib.Core.Bool.{Bool, true, false, not, ◌&&◌, ◌||◌}
-use mathlib.Core.List.{List, [], ◌∷◌, ◌++◌}
-use native.Mathlib.Nat.{zero-add, add_comm, sub-zero}
-use native.Mathlib.Numerals.{add-one}
-use native.Mathlib.Omega.{arith}
-use lib.Dec.{eqb}
-use lib.ListN.{length, get_or, set, take, drop, length-drop, length-take, take-append-drop, get_or-eq_default}
-use lib.Seq.{paste, paste-suc, get_or-drop, take-nil, take-take, take-suc, get_or-take}
+use Rattle.std.proofs.Common.{ℕ, zero, suc, ◌+◌, ◌≤◌, ◌<◌, ◌≡◌, refl, sym, ap, ◌∙◌, Bool, true, false, not, ◌&&◌, ◌||◌, List, [], ◌∷◌, ◌++◌, length, get_or, set, take, drop, eqb, arith, zero-add, add-one, length-drop}
+use mathlib.Core.Path.{ap₂}
+use native.Mathlib.Nat.{add_comm}
+use lib.ListN.{take-append-drop}
+use lib.Seq.{paste, get_or-drop, take-take, take-suc}
 use borrow.Author.Tests.{eqb-true, eqb-false, eq-eqb, ne_eqb}
+use Rattle.std.specs.List.{list_any}
+use Rattle.std.proofs.lemmas.List.{take_more}
+use Rattle.std.proofs.lemmas.List.Edits.{paste_more}
+use Rattle.std.proofs.lemmas.List.Recursion.{same_from_clauses, and_push, and_fails_at, or_push}
 use Rattle.ground.proofs.Picks.{both_true, clash, and_false}
-use Rattle.ground.proofs.Either.{or_false}
 use Rattle.field.specs.Word.{served}
 use Rattle.owed.specs.Owed.{member, no_twice, all_spans}
-
--- what is left of the first n once k are gone
-pub drop_take : (k n : ℕ) (l : List ℕ) → drop k (take n l) ≡ take (n - k) (drop k l)
-drop_take zero n l = ap (λ (j : ℕ). take j l) (sym (sub-zero n))
-drop_take (suc k) zero l = ap (λ (j : ℕ). take j (drop (suc k) l)) zero_sub
-  where
-    zero_sub : zero ≡ zero - suc k
-    zero_sub = omega arith
-drop_take (suc k) (suc n) [] = sym (take-nil (suc n - suc k))
-drop_take (suc k) (suc n) (x ∷ l) = drop_take k n l ∙ ap (λ (j : ℕ). take j (drop k l)) less
-  where
-    less : n - k ≡ suc n - suc k
-    less = omega arith
 
 -- a turn of the loop that moves each element k places down
 pub shift_step : (xs : List ℕ) (k i : ℕ) → i + k < length xs
     → set (paste xs 0 (drop k xs) i) i (get_or xs (i + k) 0) ≡ paste xs 0 (drop k xs) (i + 1)
 shift_step xs k i h =
     let at : get_or (drop k xs) i 0 ≡ get_or xs (i + k) 0 = get_or-drop k xs i 0 ∙ ap (λ (j : ℕ). get_or xs j 0) (add_comm k i) in
-    let step : set (paste xs 0 (drop k xs) i) (0 + i) (get_or (drop k xs) i 0) ≡ paste xs 0 (drop k xs) (suc i)
-    = paste-suc xs 0 (drop k xs) i 0 (omega arith) (omega (arith, length-drop k xs)) in
-    ap₂ (λ (j v : ℕ). set (paste xs 0 (drop k xs) i) j v) (sym (zero-add i)) (sym at) ∙ step
-    ∙ ap (λ (j : ℕ). paste xs 0 (drop k xs) j) (sym (add-one i))
+    ap₂ (λ (j v : ℕ). set (paste xs 0 (drop k xs) i) j v) (sym (zero-add i)) (sym at)
+    ∙ paste_more xs 0 (drop k xs) i 0 (omega arith) (omega (arith, length-drop k xs))
 
 or_assoc : (a b c : Bool) → ((a || b) || c) ≡ (a || (b || c))
 or_assoc true b c = refl
@@ -51,7 +34,14 @@ member_append x (y ∷ l) m = ap (λ (b : Bool). eqb y x || b) (member_append x 
 
 pub member_last : (x y : ℕ) (l : List ℕ) → member x (l ++ (y ∷ [])) ≡ (member x l || eqb y x)
 unfolding member
-member_last x y l = member_append x l (y ∷ []) ∙ ap (λ (b : Bool). member x l || b) (or_false (eqb y x))
+member_last x y l = or_push (member x) (λ z. eqb z x) refl (λ _ _. refl) l y
+
+-- what `contains` says of a list, or of one that equals it
+pub found : (x : ℕ) (l m : List ℕ) (b : Bool) → l ≡ m → b ≡ list_any (λ y. eqb y x) l → member x m ≡ b
+unfolding member
+found x l m b e f =
+    let same = same_from_clauses (list_any (λ y. eqb y x)) (member x) (λ y b. eqb y x || b) refl (λ _ _. refl) (λ _ _. refl) l in
+    sym (ap (member x) e) ∙ sym same ∙ sym f
 
 -- a test of two numbers is the same either way round
 pub eqb_turn : (x y : ℕ) → eqb x y ≡ eqb y x
@@ -86,22 +76,10 @@ twice_front (x ∷ l) m e = go (member x l) refl (twice_front l m) e
     go true q f e = rw (member_append x l m, q)
     go false q f e = rw (f e) (and_false (not (member x (l ++ m))))
 
-pub spans_append : (l m : List ℕ) → all_spans (l ++ m) ≡ (all_spans l && all_spans m)
-unfolding all_spans
-spans_append [] m = refl
-spans_append (x ∷ l) m = ap (λ (b : Bool). served x && b) (spans_append l m) ∙ assoc (served x) (all_spans l) (all_spans m)
-  where
-    assoc : (a b c : Bool) → (a && (b && c)) ≡ ((a && b) && c)
-    assoc true b c = refl
-    assoc false b c = refl
-
+-- one more at the end: each is served if each was and it is
 pub spans_last : (x : ℕ) (l : List ℕ) → all_spans (l ++ (x ∷ [])) ≡ (all_spans l && served x)
 unfolding all_spans
-spans_last x l = spans_append l (x ∷ []) ∙ ap (λ (b : Bool). all_spans l && b) (last (served x))
-  where
-    last : (a : Bool) → (a && true) ≡ a
-    last true = refl
-    last false = refl
+spans_last x l = and_push all_spans served refl (λ _ _. refl) l x
 
 -- what holds of the whole holds of the rest once k are gone
 pub once_rest : (k : ℕ) (l : List ℕ) → no_twice l ≡ true → no_twice (drop k l) ≡ true
@@ -143,34 +121,19 @@ module _ (x : ℕ) (l : List ℕ) where
       done true b = refl
       done false b = refl
 
--- what is at place i of the first n, and past them
-pub taken_at : (n i : ℕ) (l : List ℕ) → i < n → get_or (take n l) i 0 ≡ get_or l i 0
-taken_at n i l h = get_or-take n l i 0 h
-
-pub taken_past : (n i : ℕ) (l : List ℕ) → n ≤ i → get_or (take n l) i 0 ≡ 0
-taken_past n i l h = get_or-eq_default (take n l) 0 (omega (arith, length-take n l))
-
--- A test of the first n elements of a list, one after the other.
+-- A test of the elements of a list, one after the other.
 module _ (l : List ℕ) (i : ℕ) (k : i < length l) where
   pub spans_on : all_spans (take i l) ≡ true → served (get_or l i 0) ≡ true → all_spans (take (i + 1) l) ≡ true
-  spans_on a b = rw (add-one i, take-suc l i 0 k, spans_last (get_or l i 0) (take i l), a, b)
+  spans_on a b = rw (take_more l i 0 k, spans_last (get_or l i 0) (take i l), a, b)
 
   pub once_on : no_twice (take i l) ≡ true → member (get_or l i 0) (take i l) ≡ false → no_twice (take (i + 1) l) ≡ true
-  once_on a b = rw (add-one i, take-suc l i 0 k, twice_last (get_or l i 0) (take i l), a, b)
+  once_on a b = rw (take_more l i 0 k, twice_last (get_or l i 0) (take i l), a, b)
 
-  pub spans_lost : (n : ℕ) → i < n → served (get_or l i 0) ≡ false → all_spans (take n l) ≡ false
-  spans_lost n h e =
-      rw (
-        front (suc i) n l h,
-        spans_append (take (suc i) l) (drop (suc i) (take n l)),
-        take-suc l i 0 k,
-        spans_last (get_or l i 0)
-            (take i l),
-        e,
-        and_false (all_spans (take i l)),
-      )
+  pub spans_lost : served (get_or l i 0) ≡ false → all_spans l ≡ false
+  unfolding all_spans
+  spans_lost e = and_fails_at all_spans served refl (λ _ _. refl) l i 0 k e
 
-  pub twice_lost : (n : ℕ) → i < n → member (get_or l i 0) (take i l) ≡ true → no_twice (take n l) ≡ false
-  twice_lost n h e =
-      rw (front (suc i) n l h) (twice_front (take (suc i) l) (drop (suc i) (take n l))
-      (rw (take-suc l i 0 k, twice_last (get_or l i 0) (take i l), e) (and_false (no_twice (take i l)))))
+  pub twice_lost : member (get_or l i 0) (take i l) ≡ true → no_twice l ≡ false
+  twice_lost e =
+      rw (← take-append-drop (i + 1) l) (twice_front (take (i + 1) l) (drop (i + 1) l)
+      (rw (take_more l i 0 k, twice_last (get_or l i 0) (take i l), e) (and_false (no_twice (take i l)))))

@@ -2,20 +2,22 @@
 -- Assumes nothing.
 use Prim.Native.Nat.{ℕ, ◌+◌, ◌-◌, ◌≤◌, ◌<◌, min}
 use mathlib.Core.Path.{◌≡◌, refl, sym, ap, ◌∙◌}
-use mathlib.Core.Bool.{Bool, true, false, ◌||◌}
+use mathlib.Core.Bool.{true, false, ◌||◌}
 use mathlib.Core.List.{List, [], ◌∷◌, ◌++◌, append_assoc}
 use native.Mathlib.Nat.{zero-add}
 use native.Mathlib.Numerals.{add-one}
 use native.Mathlib.Omega.{arith}
 use lib.Dec.{leb}
-use lib.ListN.{length, set, take, drop, length-drop, length-take, length-append, take-append-drop, drop_of_length-le}
+use lib.ListN.{length, set, take, drop, length-drop, length-take, length-append, take-append-drop}
 use lib.Seq.{paste, set_split, take-append_seam, length-take-le}
 use borrow.Author.Tests.{leb-true, leb-false, le-leb, lt-leb}
-use Rattle.ground.proofs.Picks.{both_true, pick_by, clash, and_false}
+use Rattle.std.proofs.lemmas.Bool.{or_right, or_parts}
+use Rattle.std.proofs.lemmas.Slice.{between_is}
+use Rattle.ground.proofs.Picks.{both_true, pick_by, and_false}
 use Rattle.field.specs.Word.{channel_of, number_of, word_of, served}
 use Rattle.owed.specs.Owed.{owed_of, with_list, member, enters, entered, without_three, no_twice, all_spans, owed_fits, fresh_owed}
 use Rattle.owed.specs.declared.Owed.{Owed}
-use Rattle.owed.proofs.Lists.{drop_take, twice_last, once_rest, spans_last, spans_rest}
+use Rattle.owed.proofs.Lists.{twice_last, once_rest, spans_last, spans_rest}
 
 module _ (o : Owed) (h : o.count ≤ length o.numbers) where
   many : length (owed_of o) ≡ o.count
@@ -35,11 +37,7 @@ module _ (o : Owed) (h : o.count ≤ length o.numbers) where
   -- the word is there
   pub entered_there : (word : ℕ) → member word (owed_of o) ≡ true → entered o word ≡ o
   unfolding entered enters
-  entered_there word t = rw (t, or_true (leb 64 (length (owed_of o)))) back
-    where
-      or_true : (a : Bool) → (a || true) ≡ true
-      or_true true = refl
-      or_true false = refl
+  entered_there word t = rw (or_right (leb 64 (length (owed_of o))) (member word (owed_of o)) t) back
 
   -- it is not, and there is room
   pub entered_new : (word : ℕ) → o.count < 64 → o.count < length o.numbers → member word (owed_of o) ≡ false
@@ -54,27 +52,19 @@ module _ (o : Owed) (h : o.count ≤ length o.numbers) where
       ∙ ap (λ (n : ℕ). owed_of o ++ (word ∷ drop n o.numbers)) (add-one o.count)
       ∙ sym (set_split o.numbers o.count word k)))
 
-  -- fewer than three leave
-  pub left_all : o.count < 3 → without_three o ≡ record { numbers = o.numbers; count = 0 }
+  -- three leave, or all if fewer, and each other moves down by three
+  pub left : without_three o ≡ record { numbers = paste o.numbers 0 (drop 3 o.numbers) (o.count - 3); count = o.count - 3 }
   unfolding without_three
-  left_all l = ap (with_list o) (drop_of_length-le (owed_of o) {i = 3} (omega (arith, many)))
-
-  -- three leave, and each other moves down by three
-  pub left_some : 3 ≤ o.count → without_three o ≡ record { numbers = paste o.numbers 0 (drop 3 o.numbers) (o.count - 3); count = o.count - 3 }
-  unfolding without_three
-  left_some l =
+  left =
       let n = o.count - 3 in
       let len : length (take n (drop 3 o.numbers)) ≡ n = length-take-le n (drop 3 o.numbers) (omega (arith, length-drop 3 o.numbers)) in
-      ap (with_list o) (drop_take 3 o.count o.numbers)
+      ap (with_list o) (sym (between_is o.numbers 3 o.count))
       ∙ ap (λ (k : ℕ). record { numbers = take n (drop 3 o.numbers) ++ drop k o.numbers; count = k }) len
       ∙ ap (λ (k : ℕ). record { numbers = take n (drop 3 o.numbers) ++ drop k o.numbers; count = n }) (sym (zero-add n))
 
 -- how many the first three are
-pub three_few : (o : Owed) → 3 ≤ length o.numbers → o.count < 3 → o.count ≡ min 3 (length (owed_of o))
-three_few o h l = omega (arith, length-take o.count o.numbers)
-
-pub three_all : (o : Owed) → 3 ≤ length o.numbers → 3 ≤ o.count → 3 ≡ min 3 (length (owed_of o))
-three_all o h l = omega (arith, length-take o.count o.numbers)
+pub three : (o : Owed) → 3 ≤ length o.numbers → min o.count 3 ≡ min 3 (length (owed_of o))
+three o h = omega (arith, length-take o.count o.numbers)
 
 -- The list after a step is the step on the list.
 pub list_of : (o : Owed) (l : List ℕ) → owed_of (with_list o l) ≡ l
@@ -124,10 +114,6 @@ listed o l a b c = owed_fits_lem (with_list o l) (record { few = a; spans = ap a
 few_owed : (o : Owed) → o.count ≤ 64 → length (owed_of o) ≤ 64
 few_owed o h = omega (arith, length-take o.count o.numbers)
 
-or_false : (a b : Bool) → (a || b) ≡ false → (a ≡ false) × (b ≡ false)
-or_false true b e = clash (sym e)
-or_false false b e = (refl, e)
-
 pub enter_keeps : (o : Owed) (word : ℕ) → owed_fits o ≡ true → served word ≡ true → owed_fits (entered o word) ≡ true
 unfolding entered enters
 enter_keeps o word t s =
@@ -140,7 +126,7 @@ enter_keeps o word t s =
     new : (l : List ℕ) → length l ≤ 64 → all_spans l ≡ true → no_twice l ≡ true → (leb 64 (length l) || member word l) ≡ false
         → owed_fits (with_list o (l ++ (word ∷ []))) ≡ true
     new l a b c e =
-        let f = or_false (leb 64 (length l)) (member word l) e in
+        let f = or_parts (leb 64 (length l)) (member word l) e in
         let g : length l < 64 = leb-false _ _ f.0 in
         listed o (l ++ (word ∷ [])) (omega (arith, length-append l (word ∷ []))) (rw (spans_last word l, b, s)) (rw (twice_last word l, c, f.1))
 

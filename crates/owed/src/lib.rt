@@ -2,9 +2,9 @@
 // An entry is a word of 16 bits, channel (2) and number (14), as a packet carries it. `writing` puts them into packets.
 #![tactic(auto)]
 
-ghost use Rattle.std.specs.Prelude.{◌≡◌, false, ◌≤◌, ◌<◌, get_or, take};
+ghost use Rattle.std.specs.Prelude.{◌≡◌, ◌≤◌, ◌<◌, get_or};
 ghost use Rattle.field.specs.Word.{word_of};
-ghost use Rattle.owed.specs.Owed.{fresh_owed, owed_of, member, entered, first_three, without_three, owed_fits, mark_of};
+ghost use Rattle.owed.specs.Owed.{fresh_owed, owed_of, entered, first_three, without_three, owed_fits, mark_of};
 
 use packet::Acks;
 
@@ -24,37 +24,18 @@ impl Owed {
     pub fn fresh() -> Owed
         ensures { result ≡ fresh_owed }
     {
-        let none = [0u16; 64];
         Owed {
-            numbers: none,
+            numbers: [0; 64],
             count: 0,
         }
     }
 
-    // Is the word among the first n entries?
-    fn among(self, n: usize, word: u16) -> bool
-        requires { n ≤ 64 }
-        ensures { result ≡ member word (take n self.numbers) }
+    // The entries there are, oldest first.
+    fn entries(&self) -> &[u16]
+        ensures { result.now ≡ owed_of self.now }
     {
-        let mut i = 0;
-        while i < n {
-            if self.numbers[i] == word {
-                return true;
-            }
-            i += 1;
-        }
-        false
-    }
-
-    // Is the word among the first n entries? They are looked at only where it may be.
-    fn found(self, n: usize, word: u16, perhaps: bool) -> bool
-        requires { (n ≤ 64) × (perhaps ≡ false → member word (take n self.numbers) ≡ false) }
-        ensures { result ≡ member word (take n self.numbers) }
-    {
-        if !perhaps {
-            return false;
-        }
-        self.among(n, word)
+        let n = usize::from(self.count).min(self.numbers.len());
+        &self.numbers[..n]
     }
 
     // The word enters the list unless it is there already or 64 are there.
@@ -62,70 +43,48 @@ impl Owed {
         requires { self.count ≤ 64 }
         ensures { result ≡ entered self word }
     {
-        let n = self.count as usize;
         if Owed::MOST <= self.count {
             return self;
         }
-        if self.among(n, word) {
+        if self.entries().contains(&word) {
             return self;
         }
         let mut next = self;
-        next.numbers[n] = word;
+        next.numbers[usize::from(self.count)] = word;
         next.count = self.count + 1;
         next
     }
 
     // Entry i, or 0 where there is none.
-    fn entry(self, i: usize) -> u16
-        requires { i < 64 }
-        ensures { result ≡ get_or (owed_of self) i 0 }
+    fn entry(&self, i: usize) -> u16
+        ensures { result ≡ get_or (owed_of self.now) i 0 }
     {
-        if i < self.count as usize {
-            return self.numbers[i];
-        }
-        0
+        self.entries().get(i).copied().unwrap_or(0)
     }
 
     // The first three entries, or all if fewer.
+    #[tactic(auto, using(crate::proofs::Steps::three), unfolding(crate::specs::Owed::first_three))]
     pub fn first_three(self) -> Acks
         ensures { result ≡ first_three self }
     {
-        let one = self.entry(0);
-        let two = self.entry(1);
-        let three = self.entry(2);
-        if self.count < 3 {
-            return Acks {
-                count: self.count,
-                one,
-                two,
-                three,
-            };
-        }
         Acks {
-            count: 3,
-            one,
-            two,
-            three,
+            count: self.count.min(3),
+            one: self.entry(0),
+            two: self.entry(1),
+            three: self.entry(2),
         }
     }
 
     // The list without its first three entries, or all if fewer.
+    #[tactic(auto, using(crate::proofs::Steps::left))]
     pub fn without_three(self) -> Owed
         requires { self.count ≤ 64 }
         ensures { result ≡ without_three self }
     {
+        let left = self.count.saturating_sub(3);
         let mut next = self;
-        if self.count < 3 {
-            next.count = 0;
-            return next;
-        }
-        next.count = self.count - 3;
-        let n = next.count as usize;
-        let mut i = 0;
-        while i < n {
-            next.numbers[i] = self.numbers[i + 3];
-            i += 1;
-        }
+        next.numbers.copy_within(3..3 + usize::from(left), 0);
+        next.count = left;
         next
     }
 
@@ -139,20 +98,17 @@ impl Owed {
         if self.count == 0 {
             return true;
         }
-        let n = self.count as usize;
-        let mut marks = [0u8; 128];
-        let mut i = 0;
-        while i < n {
-            let word = self.numbers[i];
-            if !field::served(word) {
+        let entries = self.entries();
+        let mut marks = [false; 128];
+        for (i, word) in entries.iter().enumerate() {
+            if !field::served(*word) {
                 return false;
             }
-            let at = mark(word);
-            if self.found(i, word, marks[at] == 1) {
+            let at = mark(*word);
+            if marks[at] && entries[..i].contains(word) {
                 return false;
             }
-            marks[at] = 1;
-            i += 1;
+            marks[at] = true;
         }
         true
     }
@@ -162,7 +118,7 @@ impl Owed {
 fn mark(word: u16) -> usize
     ensures { (result ≡ mark_of word) × (result < 128) }
 {
-    (word >> 15) as usize * 64 + (word & 63) as usize
+    usize::from(word >> 15) * 64 + usize::from(word & 63)
 }
 
 // The word of a channel and a number.
@@ -170,5 +126,5 @@ pub fn word(channel: u8, number: u16) -> u16
     requires { (channel < 4) × (number < 16384) }
     ensures { result ≡ word_of channel number }
 {
-    ((channel as u16) << 14) | number
+    (u16::from(channel) << 14) | number
 }

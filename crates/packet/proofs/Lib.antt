@@ -1,3 +1,2 @@
-pub mod Cases
 pub mod Writes
 pub mod Tests

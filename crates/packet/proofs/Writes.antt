@@ -11,11 +11,9 @@ use lib.ListN.{length, take, length-append, length-take}
 use lib.Seq.{sets}
 use lib.Bits.{bit_or}
 use borrow.Author.Tests.{ltb-true, leb-true}
-use Rattle.ground.specs.Refusal.{verdict}
+use Rattle.std.specs.Prelude.{Ok}
+use Rattle.ground.specs.Refusal.{Verdict, verdict}
 use Rattle.ground.specs.Answer.{Writes}
-use Rattle.ground.specs.declared.Verdict.{Verdict}
-use Rattle.ground.specs.declared.Verdict.TheVariants.{Pass}
-use Rattle.ground.specs.declared.WriteAnswer.TheVariants.{Wrote}
 use Rattle.ground.proofs.Picks.{each, both_true}
 use Rattle.ground.proofs.Verdicts.{Holds, passed}
 use Rattle.field.specs.Layout.{Field, of, word_octets, widths, join, packed, InWidth}
@@ -133,7 +131,7 @@ module _ (h : Head) (a : Acks) where
   fits_count n e = leb-true _ _ (each (ltb h.identifier 128 ∷ ltb h.kind 128 ∷ ltb h.number 16384 ∷ ltb h.base 16384 ∷ leb a.count 3 ∷ acks_blank a ∷ numbers_placed h n ∷ []) e).1.1.1.1.0
 
 -- all tests before writing pass: then the header's fields have room, and what is stored is the packet
-module _ (h : Head) (a : Acks) (payload : List ℕ) (largest : ℕ) (l : List ℕ) {v : Verdict} (e : v ≡ verdict (write_tests h a payload largest (length l))) (k : v ≡ Pass) where
+module _ (h : Head) (a : Acks) (payload : List ℕ) (largest : ℕ) (l : List ℕ) {v : Verdict} (e : v ≡ verdict (write_tests h a payload largest (length l))) (k : v ≡ Ok tt) where
   tests : Holds (write_tests h a payload largest (length l))
   tests = passed (write_tests h a payload largest (length l)) (sym e ∙ k)
 
@@ -141,7 +139,7 @@ module _ (h : Head) (a : Acks) (payload : List ℕ) (largest : ℕ) (l : List �
   write_room = fits_room h a (length payload) tests.0 (ltb-true _ _ (both_true _ _ tests.1.0).0)
 
   pub write_done : {l₁ l₂ : List ℕ} {n : ℕ} → n ≡ 6 + 2 * a.count → l₁ ≡ sets l 0 (packed (layout h a)) → l₂ ≡ sets l₁ n payload
-      → Writes (write_tests h a payload largest (length l)) (packet_octets h a payload) l l₂ (Wrote (n + length payload))
+      → Writes (write_tests h a payload largest (length l)) (packet_octets h a payload) l l₂ (Ok (n + length payload))
   write_done p e₁ e₂ =
       let c : a.count ≤ 3 = fits_count h a (length payload) tests.0 in
       stored_writes (write_tests h a payload largest (length l)) (packet_octets h a payload) l e k (leb-true _ _ tests.1.1.1.0)

@@ -1,18 +1,15 @@
 -- What a packet's octets say, and when they are refused.
 -- Assumes nothing.
-use Rattle.std.specs.Prelude.{ℕ, ◌+◌, ◌*◌, ◌-◌, Bool, List, [], ◌∷◌, length, drop, ltb, leb, eqb}
+use Rattle.std.specs.Prelude.{ℕ, ◌+◌, ◌*◌, ◌-◌, Bool, List, [], ◌∷◌, length, drop, ltb, leb, eqb, Result, Ok, Err}
 use Rattle.ground.specs.Pick.{pick, all_hold}
-use Rattle.ground.specs.Refusal.{Test, must, verdict, settle}
-use Rattle.ground.specs.Answer.{Answer, accepted, refused}
+use Rattle.ground.specs.Refusal.{Test, must}
+use Rattle.ground.specs.Answer.{Answer, accepted, refused, answered}
 use Rattle.ground.specs.declared.Refusal.TheVariants.{SHORT, FORM, CHANNEL}
 use Rattle.field.specs.Bits.{bits_at}
 use Rattle.packet.specs.Acks.{acks_served}
 use Rattle.packet.specs.declared.Head.{Head}
 use Rattle.packet.specs.declared.Acks.{Acks}
-use Rattle.packet.specs.declared.HeadReading.{HeadReading}
-use Rattle.packet.specs.declared.HeadReading.TheVariants as head
-use Rattle.packet.specs.declared.AcksReading.{AcksReading}
-use Rattle.packet.specs.declared.AcksReading.TheVariants as acks
+use Rattle.ground.specs.declared.Refusal.{Refusal}
 
 -- "One extension bit, identifier (7 bits), one reserved bit, payload type (7); channel (2), sequence number (14);
 -- number of acknowledgements (2), base number (14)" (RULES 2.1)
@@ -87,16 +84,16 @@ abbrev pub list_tests : List ℕ → List Test
 list_tests s = must (list_there s) SHORT ∷ must (channels_served s) CHANNEL ∷ []
 
 -- what each case of a reading stands for: its values, or the refusal's number (RULES 17.3)
-abbrev pub head_says : HeadReading → Answer
-head_says (head.Says h) = accepted (h.identifier ∷ h.kind ∷ h.channel ∷ h.number ∷ h.base ∷ [])
-head_says (head.Refused r) = refused r
+abbrev pub head_says : Result Head Refusal → Answer
+head_says (Ok h) = accepted (h.identifier ∷ h.kind ∷ h.channel ∷ h.number ∷ h.base ∷ [])
+head_says (Err r) = refused r
 
-abbrev pub acks_says : AcksReading → Answer
-acks_says (acks.Says a) = accepted (a.count ∷ a.one ∷ a.two ∷ a.three ∷ [])
-acks_says (acks.Refused r) = refused r
+abbrev pub acks_says : Result Acks Refusal → Answer
+acks_says (Ok a) = accepted (a.count ∷ a.one ∷ a.two ∷ a.three ∷ [])
+acks_says (Err r) = refused r
 
-abbrev pub head_read : List ℕ → HeadReading
-head_read s = settle (verdict (head_tests s)) head.Refused (head.Says (head_at s))
+abbrev pub head_read : List ℕ → Result Head Refusal
+head_read s = answered (head_tests s) (head_at s)
 
-abbrev pub acks_read : List ℕ → AcksReading
-acks_read s = settle (verdict (list_tests s)) acks.Refused (acks.Says (acks_at s))
+abbrev pub acks_read : List ℕ → Result Acks Refusal
+acks_read s = answered (list_tests s) (acks_at s)

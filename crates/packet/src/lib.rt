@@ -6,9 +6,9 @@ ghost use Rattle.std.specs.Prelude.{◌≡◌, ◌+◌, ◌*◌, ◌<◌};
 ghost use Rattle.ground.specs.Refusal.{verdict};
 ghost use Rattle.ground.specs.Answer.{Gives};
 ghost use Rattle.packet.specs.Acks.{acks_served};
-ghost use Rattle.packet.specs.Read.{head_tests, list_tests, head_says, acks_says, head_at, acks_at, header_length, channel_at, number_at, base_at, ack_at, size_fits, payload_fits, form_plain};
+ghost use Rattle.packet.specs.Read.{head_tests, list_tests, head_says, acks_says, head_at, acks_at, header_length, channel_at, number_at, count_at, base_at, ack_at, size_fits, payload_fits, form_plain};
 
-use ground::{Refusal, Verdict};
+use ground::Refusal;
 
 mod write; // write.rt: a packet written
 
@@ -53,25 +53,18 @@ impl Acks {
     }
 }
 
-// What the first six octets say, or why they say nothing.
-#[derive(Clone, Copy)]
-pub enum HeadReading {
-    Says(Head),
-    Refused(Refusal),
-}
-
-// What the list after them says, or why it says nothing.
-#[derive(Clone, Copy)]
-pub enum AcksReading {
-    Says(Acks),
-    Refused(Refusal),
+// How many acknowledgements the packet says that it has.
+fn count_at(s: &[u8]) -> u8
+    ensures { result ≡ count_at s.now }
+{
+    (field::word_at(s, 4) >> 14) as u8
 }
 
 // Where the payload begins: after six octets and two for each acknowledgement.
 pub fn header_length(s: &[u8]) -> usize
     ensures { result ≡ header_length s.now }
 {
-    6 + 2 * ((field::word_at(s, 4) >> 14) as usize)
+    6 + 2 * (count_at(s) as usize)
 }
 
 fn channel_at(s: &[u8]) -> u8
@@ -80,18 +73,17 @@ fn channel_at(s: &[u8]) -> u8
     (field::word_at(s, 2) >> 14) as u8
 }
 
+#[tactic(auto, unfolding(crate::specs::Read::number_at))]
 fn number_at(s: &[u8]) -> u16
     ensures { result ≡ number_at s.now }
 {
-    if channel_at(s) == 0 {
-        return 0;
-    }
-    if s.len() <= header_length(s) {
+    if channel_at(s) == 0 || s.len() <= header_length(s) {
         return 0;
     }
     field::word_at(s, 2) & Head::NUMBER
 }
 
+#[tactic(auto, unfolding(crate::specs::Read::base_at))]
 fn base_at(s: &[u8]) -> u16
     ensures { result ≡ base_at s.now }
 {
@@ -122,47 +114,47 @@ fn form_plain(s: &[u8]) -> bool
     ensures { result ≡ form_plain s.now }
 {
     let w = field::word_at(s, 0);
-    (w >> 15 == 0) & (w >> 7 & 1 == 0)
+    w >> 15 == 0 && w >> 7 & 1 == 0
 }
 
-fn head_verdict(s: &[u8]) -> Verdict
+fn head_verdict(s: &[u8]) -> Result<(), Refusal>
     ensures { result ≡ verdict (head_tests s.now) }
 {
     if s.len() < 6 {
-        return Verdict::Refuse(Refusal::SHORT);
+        return Err(Refusal::SHORT);
     }
-    if form_plain(s) {
-        return Verdict::Pass;
+    if !form_plain(s) {
+        return Err(Refusal::FORM);
     }
-    Verdict::Refuse(Refusal::FORM)
+    Ok(())
 }
 
-// The first six octets: SHORT, FORM.
-pub fn read_head(s: &[u8]) -> HeadReading
-    ensures { Gives head_says (head_tests s.now) HeadReading.Refused (HeadReading.Says (head_at s.now)) result }
+// What the first six octets say: SHORT, FORM.
+pub fn read_head(s: &[u8]) -> Result<Head, Refusal>
+    ensures { Gives head_says (head_tests s.now) (head_at s.now) result }
 {
-    match head_verdict(s) {
-        Verdict::Pass => HeadReading::Says(head_at(s)),
-        Verdict::Refuse(r) => HeadReading::Refused(r),
-    }
+    head_verdict(s)?;
+    Ok(head_at(s))
 }
 
 // Acknowledgement k of the list, from 0; 0 where there is none.
+#[tactic(auto, unfolding(crate::specs::Read::ack_at))]
 fn ack_at(s: &[u8], k: usize) -> u16
     requires { k < 3 }
     ensures { result ≡ ack_at s.now k }
 {
-    if k < ((field::word_at(s, 4) >> 14) as usize) {
+    if k < count_at(s) as usize {
         field::word_at(s, 6 + 2 * k)
     } else {
         0
     }
 }
 
+#[tactic(auto, unfolding(crate::specs::Read::acks_at))]
 fn acks_at(s: &[u8]) -> Acks
     ensures { result ≡ acks_at s.now }
 {
-    let count = (field::word_at(s, 4) >> 14) as u8;
+    let count = count_at(s);
     let one = ack_at(s, 0);
     let two = ack_at(s, 1);
     let three = ack_at(s, 2);
@@ -178,54 +170,47 @@ fn acks_at(s: &[u8]) -> Acks
 pub fn acks_served(a: Acks) -> bool
     ensures { result ≡ acks_served a }
 {
-    let n = a.count;
-    let one = field::served(a.one);
-    let two = field::served(a.two);
-    let three = field::served(a.three);
-    ((n < 1) | one) & ((n < 2) | two) & ((n < 3) | three)
+    [a.one, a.two, a.three]
+        .iter()
+        .take(a.count as usize)
+        .all(|word| field::served(*word))
 }
 
-fn list_verdict(s: &[u8]) -> Verdict
+fn list_verdict(s: &[u8]) -> Result<(), Refusal>
     ensures { result ≡ verdict (list_tests s.now) }
 {
     if s.len() < header_length(s) {
-        return Verdict::Refuse(Refusal::SHORT);
+        return Err(Refusal::SHORT);
     }
-    let served = acks_served(acks_at(s));
-    if (channel_at(s) < 3) & served {
-        return Verdict::Pass;
+    if channel_at(s) >= 3 || !acks_served(acks_at(s)) {
+        return Err(Refusal::CHANNEL);
     }
-    Verdict::Refuse(Refusal::CHANNEL)
+    Ok(())
 }
 
-// The acknowledgements after the six octets: SHORT, CHANNEL.
-pub fn read_acks(s: &[u8]) -> AcksReading
-    ensures { Gives acks_says (list_tests s.now) AcksReading.Refused (AcksReading.Says (acks_at s.now)) result }
+// What the list after the six octets says, the acknowledgements: SHORT, CHANNEL.
+pub fn read_acks(s: &[u8]) -> Result<Acks, Refusal>
+    ensures { Gives acks_says (list_tests s.now) (acks_at s.now) result }
 {
-    match list_verdict(s) {
-        Verdict::Pass => AcksReading::Says(acks_at(s)),
-        Verdict::Refuse(r) => AcksReading::Refused(r),
-    }
+    list_verdict(s)?;
+    Ok(acks_at(s))
 }
 
 // Are n octets of payload no more than that, and none on channel 0?
+#[tactic(auto, unfolding(crate::specs::Read::size_fits))]
 pub fn size_fits(channel: u8, n: usize, largest: usize) -> bool
     ensures { result ≡ size_fits channel n largest }
 {
-    if channel == 0 {
-        return n == 0;
-    }
-    n <= largest
+    if channel == 0 { n == 0 } else { n <= largest }
 }
 
 // Is the packet's payload no larger than that, and none on channel 0? (SIZE where it is not.)
 pub fn payload_fits(s: &[u8], largest: usize) -> bool
     ensures { result ≡ payload_fits s.now largest }
 {
-    let at = header_length(s);
-    let channel = channel_at(s);
-    if s.len() <= at {
-        return size_fits(channel, 0, largest);
-    }
-    size_fits(channel, s.len() - at, largest)
+    size_fits(
+        channel_at(s),
+        s.len().saturating_sub(header_length(s)),
+        largest,
+    )
 }

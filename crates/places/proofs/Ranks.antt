@@ -11,13 +11,12 @@ use lib.Count.{ones, ones_cat}
 use lib.Dec.{eqb}
 use lib.Pow.{pow_pos, pow_mono, mod-pow-add}
 use borrow.Author.Tests.{eqb-true, eq-eqb, ne_eqb}
+use Rattle.std.specs.Prelude.{Option, Some, None}
 use Rattle.ground.specs.Pick.{pick}
 use Rattle.ground.proofs.Every.{below_suc}
 use Rattle.ground.proofs.Picks.{pick_by, both_true, clash}
 use Rattle.places.proofs.Bits.{bit_past}
 use Rattle.places.specs.Places.{widest, bit_of, set_below, count_of, has_rank, or_else, lowest, rank_of}
-use Rattle.places.specs.declared.Place.{Place}
-use Rattle.places.specs.declared.Place.TheVariants.{At, Missing}
 
 -- one offset more, in the set or not
 pub set_in : (m n : ℕ) → bit_of m n ≡ true → set_below m (suc n) ≡ set_below m n + 1
@@ -76,31 +75,31 @@ module _ (m : ℕ) where
 
 -- The lowest number below a bound of which a test holds.
 module _ (P : ℕ → Bool) where
-  pub lowest_none : (n : ℕ) → ((i : ℕ) → i < n → P i ≡ false) → lowest n P ≡ Missing
+  pub lowest_none : (n : ℕ) → ((i : ℕ) → i < n → P i ≡ false) → lowest n P ≡ None
   unfolding lowest
   lowest_none zero f = refl
   lowest_none (suc n) f = rw (lowest_none n (λ i l. f i (omega arith)), f n (omega arith))
 
-  pub lowest_is : (n i : ℕ) → i < n → P i ≡ true → ((j : ℕ) → j < i → P j ≡ false) → lowest n P ≡ At i
+  pub lowest_is : (n i : ℕ) → i < n → P i ≡ true → ((j : ℕ) → j < i → P j ≡ false) → lowest n P ≡ Some i
   unfolding lowest
   lowest_is zero i l t f = absurd (omega arith)
   lowest_is (suc n) i l t f =
-      below_suc (λ k. P k ≡ true → ((j : ℕ) → j < k → P j ≡ false) → lowest (suc n) P ≡ At k) n
+      below_suc (λ k. P k ≡ true → ((j : ℕ) → j < k → P j ≡ false) → lowest (suc n) P ≡ Some k) n
       (λ k q u g. rw (lowest_is n k q u g)) (λ u g. rw (lowest_none n g, u)) i l t f
 
-  pub lowest_holds : (n i : ℕ) → lowest n P ≡ At i → (i < n) × (P i ≡ true)
+  pub lowest_holds : (n i : ℕ) → lowest n P ≡ Some i → (i < n) × (P i ≡ true)
   unfolding lowest
   lowest_holds zero i e = absurd (let z : ◌≡◌ {A = ℕ} 0 1 = cc in omega arith)
   lowest_holds (suc n) i e = go (lowest n P) (lowest_holds n i) e
     where
-      go : (p : Place) → (p ≡ At i → (i < n) × (P i ≡ true)) → or_else p (pick (P n) (At n) Missing) ≡ At i → (i < suc n) × (P i ≡ true)
-      go (At j) h e = let k = h e in (omega (arith, k.0), k.1)
-      go Missing h e =
-          pick_by (λ (q : Place). q ≡ At i → (i < suc n) × (P i ≡ true)) (P n)
+      go : (p : Option ℕ) → (p ≡ Some i → (i < n) × (P i ≡ true)) → or_else p (pick (P n) (Some n) None) ≡ Some i → (i < suc n) × (P i ≡ true)
+      go (Some j) h e = let k = h e in (omega (arith, k.0), k.1)
+      go None h e =
+          pick_by (λ (q : Option ℕ). q ≡ Some i → (i < suc n) × (P i ≡ true)) (P n)
           (λ t s. let k : n ≡ i = cc in (omega arith, rw k at t)) (λ f s. absurd (let z : ◌≡◌ {A = ℕ} 0 1 = cc in omega arith)) e
 
 -- the r-th offset is in the set, and exactly r offsets of the set lie below it
-pub rank_holds : (m r i : ℕ) → rank_of m r ≡ At i → (i < widest) × (bit_of m i ≡ true) × (set_below m i ≡ r)
+pub rank_holds : (m r i : ℕ) → rank_of m r ≡ Some i → (i < widest) × (bit_of m i ≡ true) × (set_below m i ≡ r)
 unfolding rank_of
 rank_holds m r i e =
     let h = lowest_holds (has_rank m r) widest i e in
@@ -115,12 +114,12 @@ lower m r i t e j l = go (bit_of m j) refl
     go true s = ne_eqb _ _ (λ (q : set_below m j ≡ r). omega (arith, set_lt m j i s l))
     go false s = refl
 
-pub rank_is : (m r i : ℕ) → i < widest → bit_of m i ≡ true → set_below m i ≡ r → rank_of m r ≡ At i
+pub rank_is : (m r i : ℕ) → i < widest → bit_of m i ≡ true → set_below m i ≡ r → rank_of m r ≡ Some i
 unfolding rank_of
 rank_is m r i l t e = lowest_is (has_rank m r) widest i l (rw (t, eq-eqb _ _ e)) (lower m r i t e)
 
 -- there is none where no more than r offsets are in the set
-pub rank_missing : (m r n : ℕ) → m < 2 ^ n → set_below m n ≤ r → rank_of m r ≡ Missing
+pub rank_missing : (m r n : ℕ) → m < 2 ^ n → set_below m n ≤ r → rank_of m r ≡ None
 unfolding rank_of
 rank_missing m r n h l = lowest_none (has_rank m r) widest (λ i q. go i (bit_of m i) refl (dec_lt i n))
   where
@@ -130,7 +129,7 @@ rank_missing m r n h l = lowest_none (has_rank m r) widest (λ i q. go i (bit_of
     go i false s q = refl
 
 -- an offset found by its rank is as far as the mask reaches at most
-pub rank_below : (m r i n : ℕ) → m < 2 ^ n → rank_of m r ≡ At i → i < n
+pub rank_below : (m r i n : ℕ) → m < 2 ^ n → rank_of m r ≡ Some i → i < n
 rank_below m r i n h e = go (dec_lt i n)
   where
     go : Dec (i < n) → i < n
@@ -155,9 +154,9 @@ rank_below_count m (suc n) r l = go (dec_lt r (set_below m n)) (rank_below_count
     go (no q) f true e l = (n, omega arith, e, omega arith)
     go (no q) f false e l = absurd (omega arith)
 
-pub rank_found : (m r : ℕ) → r < count_of m → (i : ℕ) × (rank_of m r ≡ At i)
+pub rank_found : (m r : ℕ) → r < count_of m → (i : ℕ) × (rank_of m r ≡ Some i)
 rank_found m r l = let f = rank_below_count m widest r l in (f.0, rank_is m r f.0 f.1 f.2 f.3)
 
 -- and every offset of the set has a rank below the count
-pub rank_of_lem : (m i : ℕ) → i < widest → bit_of m i ≡ true → (rank_of m (set_below m i) ≡ At i) × (set_below m i < count_of m)
+pub rank_of_lem : (m i : ℕ) → i < widest → bit_of m i ≡ true → (rank_of m (set_below m i) ≡ Some i) × (set_below m i < count_of m)
 rank_of_lem m i l t = (rank_is m (set_below m i) i l t refl, set_lt m i widest t l)

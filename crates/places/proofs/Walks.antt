@@ -13,9 +13,6 @@ use Rattle.ground.proofs.Picks.{clash}
 use Rattle.places.specs.Places.{bit_of}
 use Rattle.places.proofs.Bits.{dropped_all, within_lt}
 
-pub walk_begins : (m : ℕ) → m ≡ m / 2 ^ 0
-walk_begins m = sym (div-one m)
-
 module _ (m i x : ℕ) (e : x ≡ m / 2 ^ i) where
   -- the lowest offset that is left is offset i
   pub walk_at : bit_of x 0 ≡ bit_of m i

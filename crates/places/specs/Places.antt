@@ -2,11 +2,9 @@
 -- made of is closed: above, `mask_set` is all that is known of `mask_of` and `set_of`, and only a run that is computed opens them. So a wider
 -- mask changes these two and `widest`, the methods and their proofs, and nothing above.
 -- Assumes nothing.
-use Rattle.std.specs.Prelude.{ℕ, zero, suc, ◌+◌, ◌-◌, ◌/◌, ◌%◌, ◌^◌, Bool, ◌&&◌, eqb}
+use Rattle.std.specs.Prelude.{ℕ, zero, suc, ◌+◌, ◌-◌, ◌/◌, ◌%◌, ◌^◌, Bool, ◌&&◌, eqb, Option, Some, None}
 use Rattle.ground.specs.Pick.{pick}
-use Rattle.places.specs.declared.Place.{Place}
 use Rattle.places.specs.declared.Places.{Places}
-use Rattle.places.specs.declared.Place.TheVariants.{At, Missing}
 
 -- the mask of a set, and the set of a mask
 unfoldable pub mask_of : Places → ℕ
@@ -49,15 +47,15 @@ abbrev pub has_rank : ℕ → ℕ → ℕ → Bool
 has_rank m r i = bit_of m i && eqb (set_below m i) r
 
 -- the first offset if there is one, else the second
-abbrev pub or_else : Place → Place → Place
-or_else (At i) q = At i
-or_else Missing q = q
+abbrev pub or_else : Option ℕ → Option ℕ → Option ℕ
+or_else (Some i) q = Some i
+or_else None q = q
 
 -- the lowest offset below n of which the test holds
-unfoldable pub lowest : ℕ → (ℕ → Bool) → Place
-lowest zero P = Missing
-lowest (suc n) P = or_else (lowest n P) (pick (P n) (At n) Missing)
+unfoldable pub lowest : ℕ → (ℕ → Bool) → Option ℕ
+lowest zero P = None
+lowest (suc n) P = or_else (lowest n P) (pick (P n) (Some n) None)
 
 -- the r-th offset of the set, the lowest being 0
-unfoldable pub rank_of : ℕ → ℕ → Place
+unfoldable pub rank_of : ℕ → ℕ → Option ℕ
 rank_of m r = lowest widest (has_rank m r)

@@ -3,7 +3,7 @@
 // Contracts speak of the mask as a number: a window over 32 needs more words in the struct, and nothing above.
 #![tactic(auto)]
 
-ghost use Rattle.std.specs.Prelude.{◌≡◌, ◌/◌, ◌^◌, ◌<◌, eqb};
+ghost use Rattle.std.specs.Prelude.{◌≡◌, ◌/◌, ◌^◌, ◌<◌, ◌≤◌, eqb};
 ghost use Rattle.places.specs.Places.{mask_of, set_of, widest, bit_of, with_bit, without_bit, within, count_of, rank_of};
 
 #[repr(C)]
@@ -11,13 +11,6 @@ ghost use Rattle.places.specs.Places.{mask_of, set_of, widest, bit_of, with_bit,
 pub struct Places {
     // Bit i stands for offset i.
     pub bits: u32,
-}
-
-// What a search for an offset finds: the offset, or that there is none.
-#[derive(Clone, Copy)]
-pub enum Place {
-    At(u32),
-    Missing,
 }
 
 impl Places {
@@ -98,23 +91,27 @@ impl Places {
         u32::count_ones(self.bits)
     }
 
-    // The offset of the set that has exactly `rank` offsets of the set below it.
-    pub fn rank(self, rank: u32) -> Place
+    // One past the highest offset of the set; 0 where there is none.
+    fn reach(self) -> u32
+        ensures above { mask_of self < 2 ^ result }
+        ensures room { result ≤ widest }
+    {
+        u32::BITS - self.bits.leading_zeros()
+    }
+
+    // The offset of the set that has exactly `rank` offsets of the set below it, if there is one.
+    pub fn rank(self, rank: u32) -> Option<u32>
         ensures { result ≡ rank_of (mask_of self) rank }
     {
-        let mut rest = self;
         let mut left = rank;
-        let mut i = 0;
-        while !rest.empty() {
-            if rest.has(0) {
+        for i in 0..self.reach() {
+            if self.has(i) {
                 if left == 0 {
-                    return Place::At(i);
+                    return Some(i);
                 }
                 left -= 1;
             }
-            rest = rest.dropped(1);
-            i += 1;
         }
-        Place::Missing
+        None
     }
 }

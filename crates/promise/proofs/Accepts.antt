@@ -10,13 +10,12 @@ use native.Mathlib.Omega.{arith}
 use lib.Dec.{ltb, leb}
 use lib.ListN.{length, get_or}
 use borrow.Author.Tests.{lt-ltb, le-leb, eq-eqb, leb-true}
+use Rattle.std.specs.Prelude.{Option, Some, Ok}
 use Rattle.ground.specs.Refusal.{Test, must, verdict}
 use Rattle.ground.specs.declared.Refusal.TheVariants.{SIZE}
-use Rattle.ground.specs.declared.Verdict.TheVariants.{Pass}
 use Rattle.ground.proofs.Picks.{both_true, pick_lt}
 use Rattle.ground.proofs.Verdicts.{passes, verdict_on}
 use Rattle.places.specs.Places.{mask_of, widest, bit_of, set_below, rank_of}
-use Rattle.places.specs.declared.Place.TheVariants.{At}
 use Rattle.places.proofs.Ranks.{rank_found, rank_of_lem}
 use Rattle.channel.specs.Channel.{largest, window_of, cap}
 use Rattle.channel.specs.Distance.{place_of}
@@ -25,8 +24,6 @@ use Rattle.receiving.specs.Receiving.{next_size}
 use Rattle.sending.specs.Sending.{held_count, held_at, held_of, take_tests}
 use Rattle.receiving.specs.declared.Receiving.{Receiving}
 use Rattle.sending.specs.declared.Held.{Held}
-use Rattle.sending.specs.declared.Ranked.{Ranked}
-use Rattle.sending.specs.declared.Ranked.TheVariants.{Is}
 use Rattle.flow.proofs.Keeps.{receiving_sized}
 use Rattle.flow.specs.Flow.{Message, Full}
 use Rattle.line.specs.Fit.{line_fits}
@@ -58,25 +55,25 @@ use Rattle.promise.proofs.OwnLine.{Passes}
 use Rattle.promise.proofs.CallsKeep.{joined_open}
 
 -- the message whose place has the rank
-pub ranked_is : (l : Line) (channel rank : ℕ) {n : ℕ} → rank_of (mask_of (sending_of l channel).unacked) rank ≡ At n
-    → ranked l channel rank ≡ Is (held_in (held_at (send_window l channel) (sending_of l channel) (At n)))
+pub ranked_is : (l : Line) (channel rank : ℕ) {n : ℕ} → rank_of (mask_of (sending_of l channel).unacked) rank ≡ Some n
+    → ranked l channel rank ≡ Some (held_in (held_at (send_window l channel) (sending_of l channel) (Some n)))
 unfolding held_of
 ranked_is l channel rank e = ap (held_at (send_window l channel) (sending_of l channel)) e
 
 -- On a line in modem relay.
 module _ (l : Line) (opened : is_open l ≡ true) (inside : l.modes.local ≡ modem) where
-  pub relay_asked : (channel : ℕ) → reliable channel ≡ true → verdict (relay_channel_tests l channel) ≡ Pass
+  pub relay_asked : (channel : ℕ) → reliable channel ≡ true → verdict (relay_channel_tests l channel) ≡ Ok tt
   unfolding relay_channel_tests
   relay_asked channel v = passes (relay_channel_tests l channel) (opened, (eq-eqb _ _ inside, (v, tt)))
 
   -- a message that has a rank is written where the largest packet has room
   module _ (fits : line_fits l ≡ true) (channel rank space : ℕ) (v : reliable channel ≡ true) (roomy : longest_packet l ≤ space) where
-    rank_may : {n : ℕ} → rank_of (mask_of (sending_of l channel).unacked) rank ≡ At n → verdict (send_tests l channel rank space) ≡ Pass
+    rank_may : {n : ℕ} → rank_of (mask_of (sending_of l channel).unacked) rank ≡ Some n → verdict (send_tests l channel rank space) ≡ Ok tt
     rank_may {n} e =
         let w = send_window l channel in
         let s = sending_of l channel in
         let asked = relay_asked channel v in
-        let held : Held = held_in (held_at w s (At n)) in
+        let held : Held = held_in (held_at w s (Some n)) in
         let exact = send_may l channel rank (sent_length l held) asked (ranked_is l channel rank e) (self (sent_length l held)) in
         let size = send_size l fits channel (sent_length l held) held (may_sendable l channel rank (sent_length l held) fits exact) in
         (may_passed l channel rank space (send_may l channel rank space asked (ranked_is l channel rank e) (omega (arith, acks_few l, size.1)))).0
@@ -84,16 +81,16 @@ module _ (l : Line) (opened : is_open l ≡ true) (inside : l.modes.local ≡ mo
         self : (n : ℕ) → n ≤ n
         self n = omega arith
 
-    pub send_may_by : rank < held_count (sending_of l channel) → verdict (send_tests l channel rank space) ≡ Pass
+    pub send_may_by : rank < held_count (sending_of l channel) → verdict (send_tests l channel rank space) ≡ Ok tt
     send_may_by q = let f = rank_found (mask_of (sending_of l channel).unacked) rank q in rank_may f.1
 
-  pub empty_may : (channel space : ℕ) → channel ≤ 2 → longest_header ≤ space → verdict (empty_tests l channel space) ≡ Pass
+  pub empty_may : (channel space : ℕ) → channel ≤ 2 → longest_header ≤ space → verdict (empty_tests l channel space) ≡ Ok tt
   unfolding empty_tests
   empty_may channel space c r = passes (empty_tests l channel space) (opened, (eq-eqb _ _ inside, (le-leb channel 2 c, (le-leb (header_length_for l) space (omega (arith, acks_few l)), tt))))
 
 -- a hand-out is not refused where message R is stored; space is the output's length
 module _ (c : ℕ) (v : reliable c ≡ true) (space : ℕ) (roomy : largest ≤ space) where
-  pub hand_may : {e f : End} → Joined e f → is_open f.line ≡ true → f.line.modes.local ≡ modem → Full ((got f c).stored (got f c).R) → verdict (hand_call_tests f.line c space) ≡ Pass
+  pub hand_may : {e f : End} → Joined e f → is_open f.line ≡ true → f.line.modes.local ≡ modem → Full ((got f c).stored (got f c).R) → verdict (hand_call_tests f.line c space) ≡ Ok tt
   unfolding hand_call_tests relay_channel_tests
   hand_may {e} {f} j opened inside full =
       let r : Receiving = receiving_of f.line c in
@@ -107,7 +104,7 @@ module _ (c : ℕ) (v : reliable c ≡ true) (space : ℕ) (roomy : largest ≤ 
       let small : next_size r ≤ largest = leb-true _ _ (both_true (ltb 0 (next_size r)) (leb (next_size r) largest) fits).1 in
       passes (hand_call_tests f.line c space) (opened, (eq-eqb _ _ inside, (v, (lt-ltb _ _ below, (there, (le-leb (next_size r) space (omega arith), tt))))))
 
--- At a gateway.
+-- Some a gateway.
 module _ {i identifier kind : ℕ} {g : Gateway} {p : Past} (s : Sound i identifier kind g p) (a : InRelay g i p) {f : End} (j : Joined (end_of g i p) f) (out : List ℕ) where
   own : Open identifier kind (line_at g i)
   own = is_open_lem s.phase a.0
@@ -115,10 +112,10 @@ module _ {i identifier kind : ℕ} {g : Gateway} {p : Past} (s : Sound i identif
   numbered : (line_number i).holds ≡ true
   numbered = le-leb i 3 (omega (arith, s.small))
 
-  on : (ts : List Test) → verdict ts ≡ Pass → verdict (fit_book g.book ∷ line_number i ∷ ts) ≡ Pass
+  on : (ts : List Test) → verdict ts ≡ Ok tt → verdict (fit_book g.book ∷ line_number i ∷ ts) ≡ Ok tt
   on ts e = verdict_on (fit_book g.book ∷ line_number i ∷ []) ts (passes (fit_book g.book ∷ line_number i ∷ []) (s.fits, (numbered, tt))) ∙ e
 
-  lent : (ts : List Test) → verdict ts ≡ Pass → verdict (fit_book g.book ∷ roomy g.book (length g.store) ∷ line_number i ∷ ts) ≡ Pass
+  lent : (ts : List Test) → verdict ts ≡ Ok tt → verdict (fit_book g.book ∷ roomy g.book (length g.store) ∷ line_number i ∷ ts) ≡ Ok tt
   lent ts e =
       let before = fit_book g.book ∷ roomy g.book (length g.store) ∷ line_number i ∷ [] in
       verdict_on before ts (passes before (s.fits, (le-leb _ _ s.long, (numbered, tt)))) ∙ e
@@ -165,7 +162,7 @@ module _ {i identifier kind : ℕ} {g : Gateway} {p : Past} (s : Sound i identif
         let bit : bit_of m d ≡ true = full_bit (window_of channel) (slots_of (line_at g i) (part_in g i) way.Sending channel) k.sizes m k.origin d (subst (λ (e : End). Full ((sent e channel).held n)) now full) in
         let near : d < widest = omega (arith, (j.there channel v).high, window_narrow channel) in
         let r = rank_of_lem m d near bit in
-        (set_below m d, r.1, ap (λ (x : Ranked). (held_in x).number) (ranked_is (line_at g i) channel (set_below m d) r.0) ∙ back k.base (omega arith))
+        (set_below m d, r.1, ap (λ (x : Option Held). (held_in x).number) (ranked_is (line_at g i) channel (set_below m d) r.0) ∙ back k.base (omega arith))
       where
         back : {n : ℕ} (b : ℕ) → b ≤ n → b + (n - b) ≡ n
         back b q = omega arith

@@ -6,8 +6,8 @@ use mathlib.Core.Path.{◌≡◌, refl, ◌∙◌}
 use mathlib.Core.List.{List}
 use lib.ListN.{length}
 use borrow.Author.Tests.{lt-ltb, le-leb}
+use Rattle.std.specs.Prelude.{Ok}
 use Rattle.ground.specs.Refusal.{verdict}
-use Rattle.ground.specs.declared.Verdict.TheVariants.{Pass}
 use Rattle.field.specs.Bits.{bits_at}
 use Rattle.connect.specs.Read.{connect_at}
 use Rattle.connect.specs.Read as connect
@@ -25,7 +25,7 @@ abbrev LeavesOctets : Left → List ℕ → Type 0
 LeavesOctets w octets = (w.answer.number ≡ 0) × (octets_left w ≡ octets)
 
 -- a BREAK is written as it was read
-pub break_again : {b : Build} → Demand2 b → (s : List ℕ) → Octets s → verdict (breaks.read_tests s) ≡ Pass → (out : List ℕ) → length s ≤ length out
+pub break_again : {b : Build} → Demand2 b → (s : List ℕ) → Octets s → verdict (breaks.read_tests s) ≡ Ok tt → (out : List ℕ) → length s ≤ length out
     → LeavesOctets (b.bodies.break_write (break_at s) out) s
 break_again d s o ok out h =
     let r = break_back.octets_round s o ok (length out) h in
@@ -33,10 +33,10 @@ break_again d s o ok out h =
     (k.written, k.stands ∙ r.1)
 
 -- a CONNECT is written as it was read, with the ten bits 0, if its modulation is below 31 and its error correction below 3
-pub connect_again_lem : {b : Build} → Demand2 b → (s : List ℕ) → verdict (connect.read_tests s) ≡ Pass → bits_at s 0 6 < 31 → bits_at s 12 4 < 3 → (out : List ℕ) → length s ≤ length out
+pub connect_again_lem : {b : Build} → Demand2 b → (s : List ℕ) → verdict (connect.read_tests s) ≡ Ok tt → bits_at s 0 6 < 31 → bits_at s 12 4 < 3 → (out : List ℕ) → length s ≤ length out
     → LeavesOctets (b.bodies.connect_write (connect_at s) out) (connect_again s)
 connect_again_lem d s ok m e out h =
-    let p : verdict (body.write_tests (connect_at s) (length out)) ≡ Pass =
+    let p : verdict (body.write_tests (connect_at s) (length out)) ≡ Ok tt =
     connect_back.written_again s ok (length out) ∙ rw (lt-ltb (bits_at s 0 6) 31 m, lt-ltb (bits_at s 12 4) 3 e, le-leb (length s) (length out) h) refl in
     let k = d.connect_back (connect_at s) out p in
     (k.written, k.stands ∙ connect_back.octets_round s ok)

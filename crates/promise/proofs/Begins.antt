@@ -9,8 +9,8 @@ use mathlib.Core.List.{List, ◌∷◌}
 use native.Mathlib.Omega.{arith}
 use lib.ListN.{length}
 use borrow.Author.Tests.{le-leb}
+use Rattle.std.specs.Prelude.{Ok}
 use Rattle.ground.specs.Refusal.{verdict}
-use Rattle.ground.specs.declared.Verdict.TheVariants.{Pass}
 use Rattle.ground.proofs.Verdicts.{passes}
 use Rattle.mode.specs.Given.{modem}
 use Rattle.mode.specs.Moved.{moved}
@@ -40,7 +40,7 @@ use Rattle.promise.proofs.LineStays.{stepped_open, stepped_modes}
 use Rattle.promise.proofs.StepsKeep.{fresh_sound}
 
 -- a request for m that is not refused
-asked_modem : (m : Modes) (time : ℕ) → verdict (ask_tests m modem time) ≡ Pass → (outcome m (ask modem time)).modes.local ≡ modem
+asked_modem : (m : Modes) (time : ℕ) → verdict (ask_tests m modem time) ≡ Ok tt → (outcome m (ask modem time)).modes.local ≡ modem
 unfolding ask_step moved
 asked_modem m time e = rw e refl
 
@@ -80,8 +80,8 @@ module _ (store : List ℕ) (long : store_length fresh_book ≤ length store) (i
   sound : Sound i s.identifier s.kind h just_opened
   sound = sound_after fresh opening out (unused its (subst Unused (sym opened) (opened_unused s time)))
 
-  asked : verdict (ask_tests (line_at h i).modes modem then) ≡ Pass
-  asked = subst (λ (l : Line). verdict (ask_tests l.modes modem then) ≡ Pass) (sym opened) (rw (le-leb time then later, relay) refl)
+  asked : verdict (ask_tests (line_at h i).modes modem then) ≡ Ok tt
+  asked = subst (λ (l : Line). verdict (ask_tests l.modes modem then) ≡ Ok tt) (sym opened) (rw (le-leb time then later, relay) refl)
 
   ask_passes : Passes h asks out
   unfolding tests mode_tests

@@ -7,9 +7,9 @@ use mathlib.Core.List.{List, [], ◌∷◌}
 use lib.Dec.{eqb}
 use lib.ListN.{length, take}
 use borrow.Author.Tests.{eqb-true}
+use Rattle.std.specs.Prelude.{Ok}
 use Rattle.ground.specs.Pick.{pick}
 use Rattle.ground.specs.Refusal.{verdict}
-use Rattle.ground.specs.declared.Verdict.TheVariants.{Pass}
 use Rattle.ground.proofs.Verdicts.{passed, pass_both}
 use Rattle.line.specs.declared.Line.{Line}
 use Rattle.mode.specs.Given.{modem}
@@ -44,28 +44,28 @@ use Rattle.promise.proofs.OwnLine.{Passes, line_left, part_left, part_stays, oct
 
 -- What the tests of a call ask of its line.
 module _ (g : Gateway) (i : ℕ) (out : List ℕ) where
-  pub take_asks : (channel : ℕ) (m : Message) → Passes g (call.taking i channel m) out → verdict (take_call_tests (line_at g i) channel (length m)) ≡ Pass
+  pub take_asks : (channel : ℕ) (m : Message) → Passes g (call.taking i channel m) out → verdict (take_call_tests (line_at g i) channel (length m)) ≡ Ok tt
   unfolding tests
   take_asks channel m e = (pass_both (fit_book g.book ∷ roomy g.book (length g.store) ∷ line_number i ∷ []) (take_call_tests (line_at g i) channel (length m)) e).1
 
-  pub hand_asks : (channel : ℕ) → Passes g (call.hand_out i channel) out → verdict (hand_call_tests (line_at g i) channel (length out)) ≡ Pass
+  pub hand_asks : (channel : ℕ) → Passes g (call.hand_out i channel) out → verdict (hand_call_tests (line_at g i) channel (length out)) ≡ Ok tt
   unfolding tests
   hand_asks channel e = (pass_both (fit_book g.book ∷ roomy g.book (length g.store) ∷ line_number i ∷ []) (hand_call_tests (line_at g i) channel (length out)) e).1
 
-  pub send_asks : (channel rank : ℕ) → Passes g (call.sending i channel rank) out → verdict (send_tests (line_at g i) channel rank (length out)) ≡ Pass
+  pub send_asks : (channel rank : ℕ) → Passes g (call.sending i channel rank) out → verdict (send_tests (line_at g i) channel rank (length out)) ≡ Ok tt
   unfolding tests
   send_asks channel rank e = (pass_both (fit_book g.book ∷ roomy g.book (length g.store) ∷ line_number i ∷ []) (send_tests (line_at g i) channel rank (length out)) e).1
 
-  pub empty_asks : (channel : ℕ) → Passes g (call.empty i channel) out → verdict (empty_tests (line_at g i) channel (length out)) ≡ Pass
+  pub empty_asks : (channel : ℕ) → Passes g (call.empty i channel) out → verdict (empty_tests (line_at g i) channel (length out)) ≡ Ok tt
   unfolding tests
   empty_asks channel e = (pass_both (fit_book g.book ∷ line_number i ∷ []) (empty_tests (line_at g i) channel (length out)) e).1
 
 -- a packet is written in modem relay
-send_inside : (l : Line) (channel rank space : ℕ) → verdict (send_tests l channel rank space) ≡ Pass → l.modes.local ≡ modem
+send_inside : (l : Line) (channel rank space : ℕ) → verdict (send_tests l channel rank space) ≡ Ok tt → l.modes.local ≡ modem
 unfolding send_tests
 send_inside l channel rank space e = (asked_open l channel (pass_both (relay_channel_tests l channel) _ e).0).1
 
-empty_inside : (l : Line) (channel space : ℕ) → verdict (empty_tests l channel space) ≡ Pass → l.modes.local ≡ modem
+empty_inside : (l : Line) (channel space : ℕ) → verdict (empty_tests l channel space) ≡ Ok tt → l.modes.local ≡ modem
 unfolding empty_tests
 empty_inside l channel space e = eqb-true _ _ (passed (empty_tests l channel space) e).1.0
 

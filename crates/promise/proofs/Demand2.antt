@@ -6,9 +6,9 @@ use mathlib.Core.Bool.{true}
 use mathlib.Core.List.{List, [], ◌∷◌}
 use native.Mathlib.Omega.{arith}
 use borrow.Author.Tests.{le-leb, eq-eqb}
+use Rattle.std.specs.Prelude.{Ok}
 use Rattle.ground.specs.Answer.{Answer}
 use Rattle.ground.specs.Refusal.{verdict}
-use Rattle.ground.specs.declared.Verdict.TheVariants.{Pass}
 use Rattle.ground.proofs.Verdicts.{passes}
 use Rattle.mode.specs.Given.{modem}
 use Rattle.mode.specs.Moved.{moved, trying}
@@ -40,11 +40,11 @@ use Rattle.promise.proofs.Arrivals.{let_in, outside_stays}
 use Rattle.promise.proofs.ModesStay.{modes_stay, opens_line, closes_line}
 
 -- S after an indication that is heard, and after a request
-heard_local : (m : Modes) (k time : ℕ) → verdict (hear_tests m k time) ≡ Pass → (hear_step m k time).modes.local ≡ heard_mode m k
+heard_local : (m : Modes) (k time : ℕ) → verdict (hear_tests m k time) ≡ Ok tt → (hear_step m k time).modes.local ≡ heard_mode m k
 unfolding hear_step moved trying
 heard_local m k time e = rw e (heard_by (λ (n : Modes). n.local ≡ heard_mode m k) m k time (λ t a. refl) (λ t. refl))
 
-asked_local : (m : Modes) (k time : ℕ) → verdict (ask_tests m k time) ≡ Pass → (ask_step m k time).modes.local ≡ k
+asked_local : (m : Modes) (k time : ℕ) → verdict (ask_tests m k time) ≡ Ok tt → (ask_step m k time).modes.local ≡ k
 unfolding ask_step moved
 asked_local m k time e = rw e refl
 
@@ -52,7 +52,7 @@ module _ {g : Gateway} {i : ℕ} (r : Ready g i) (a : Act) (out : List ℕ) wher
   abbrev m : Modes
   m = (line_at g i).modes
 
-  there : verdict (fit_book g.book ∷ line_number i ∷ must_be_open (line_at g i) ∷ []) ≡ Pass
+  there : verdict (fit_book g.book ∷ line_number i ∷ must_be_open (line_at g i) ∷ []) ≡ Ok tt
   there = passes (fit_book g.book ∷ line_number i ∷ must_be_open (line_at g i) ∷ []) (r.fits, (le-leb i 3 (omega (arith, r.small)), (r.opened, tt)))
 
   -- a mode call does what it does to the modes of its line, and says what it says of them
@@ -82,7 +82,7 @@ module _ {g : Gateway} {i : ℕ} (r : Ready g i) (a : Act) (out : List ℕ) wher
         subst Gone (sym modes_left) (k.left, k.away),
   )
 
-hears : {g : Gateway} {i : ℕ} → Ready g i → (k time : ℕ) → verdict (hear_tests (line_at g i).modes k time) ≡ Pass → (out : List ℕ)
+hears : {g : Gateway} {i : ℕ} → Ready g i → (k time : ℕ) → verdict (hear_tests (line_at g i).modes k time) ≡ Ok tt → (out : List ℕ)
     → (accepts (does g (call.mode i (hear k time)) out) ≡ true)
     × ((line_at (after g (call.mode i (hear k time)) out) i).modes.local ≡ heard_mode (line_at g i).modes k)
     × (permitted k (line_at (after g (call.mode i (hear k time)) out) i).modes.local ≡ true)
@@ -94,7 +94,7 @@ hears {g} {i} r k time e out =
       subst (λ (s : ℕ). permitted k s ≡ true) (sym left) (indication_permitted m k time e),
     )
 
-asks : {g : Gateway} {i : ℕ} → Ready g i → (k time : ℕ) → verdict (ask_tests (line_at g i).modes k time) ≡ Pass → (out : List ℕ)
+asks : {g : Gateway} {i : ℕ} → Ready g i → (k time : ℕ) → verdict (ask_tests (line_at g i).modes k time) ≡ Ok tt → (out : List ℕ)
     → (accepts (does g (call.mode i (ask k time)) out) ≡ true) × ((line_at (after g (call.mode i (ask k time)) out) i).modes.local ≡ k)
 asks {g} {i} r k time e out =
     let m = (line_at g i).modes in (

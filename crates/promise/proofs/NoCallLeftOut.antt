@@ -7,8 +7,8 @@ use mathlib.Core.List.{List, ◌∷◌}
 use native.Mathlib.Decide.{ℕ_discrete}
 use lib.ListN.{length}
 use borrow.Author.Tests.{eqb-true}
+use Rattle.std.specs.Prelude.{Ok}
 use Rattle.ground.specs.Refusal.{verdict}
-use Rattle.ground.specs.declared.Verdict.TheVariants.{Pass}
 use Rattle.ground.proofs.Either.{by_test}
 use Rattle.ground.proofs.Picks.{clash}
 use Rattle.ground.proofs.Verdicts.{passed}
@@ -37,7 +37,7 @@ open_refused g i x time out e o =
     clash (sym (ap not o) ∙ t.1.1.0)
 
 -- a packet is let in by a line in modem relay
-arrives_in : (l : Line) (s : List ℕ) → verdict (arrive_tests l s) ≡ Pass → l.modes.local ≡ modem
+arrives_in : (l : Line) (s : List ℕ) → verdict (arrive_tests l s) ≡ Ok tt → l.modes.local ≡ modem
 unfolding arrive_tests
 arrives_in l s e = eqb-true _ _ (passed (arrive_tests l s) e).1.0
 

@@ -8,9 +8,9 @@ use native.Mathlib.Omega.{arith}
 use lib.ListN.{length, take, drop, get_or}
 use lib.Seq.{take-append_seam}
 use borrow.Author.Tests.{eqb-true, eqb-false, eq-eqb}
+use Rattle.std.specs.Prelude.{Ok}
 use Rattle.ground.specs.Answer.{Answer}
 use Rattle.ground.specs.Refusal.{verdict}
-use Rattle.ground.specs.declared.Verdict.TheVariants.{Pass}
 use Rattle.book.specs.Parts.{part_start, part_of, with_part}
 use Rattle.book.proofs.Parts.{part_put, part_long}
 use Rattle.calls.specs.Call.{Call}
@@ -27,7 +27,7 @@ use Rattle.promise.proofs.Phases.{Sound}
 
 -- all its tests hold
 abbrev pub Passes : Gateway → Call → List ℕ → Type 0
-Passes g c out = verdict (tests c g.book (length g.store) (length out)) ≡ Pass
+Passes g c out = verdict (tests c g.book (length g.store) (length out)) ≡ Ok tt
 
 pub call_passes : (g : Gateway) (c : Call) (out : List ℕ) → accepts (does g c out) ≡ true → Passes g c out
 call_passes g c out e = accepted_passes c g.book g.store out (eqb-true _ _ e)

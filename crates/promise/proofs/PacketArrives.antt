@@ -7,8 +7,8 @@ use mathlib.Core.List.{List, [], ◌∷◌, ◌++◌}
 use native.Mathlib.Omega.{arith}
 use lib.ListN.{length}
 use lib.Seq.{length-take-le}
+use Rattle.std.specs.Prelude.{Ok}
 use Rattle.ground.specs.Refusal.{verdict}
-use Rattle.ground.specs.declared.Verdict.TheVariants.{Pass}
 use Rattle.packet.specs.Read.{head_at, payload_of, header_length, head_tests}
 use Rattle.channel.specs.Channel.{modulus}
 use Rattle.flow.specs.Flow.{Message, Full}
@@ -39,7 +39,7 @@ full_length (a ∷ x) v = omega arith
 
 -- what the peer wrote for this line is refused by none of the line's tests
 pub said_passes : (f : End) (l : Line) (k : Packet) → Says f k → f.line.kind ≡ l.kind → l.modes.local ≡ modem
-    → (verdict (head_tests k.octets) ≡ Pass) × (verdict (arrive_tests l k.octets) ≡ Pass)
+    → (verdict (head_tests k.octets) ≡ Ok tt) × (verdict (arrive_tests l k.octets) ≡ Ok tt)
 said_passes f l k says same inside = (says.plain, arrive_passes l k.octets (says.typed ∙ same) inside says.listed says.sized)
 
 -- the end that packet k has arrived at, with octets s
@@ -51,7 +51,7 @@ after_arrival e k s =
       past = heard_past e.past k;
     }
 
-module _ {e f : End} (relaying : Relaying e.line) (j : Joined e f) (k : Packet) (says : Says f k) (pass : verdict (arrive_tests e.line k.octets) ≡ Pass) where
+module _ {e f : End} (relaying : Relaying e.line) (j : Joined e f) (k : Packet) (says : Says f k) (pass : verdict (arrive_tests e.line k.octets) ≡ Ok tt) where
   abbrev l : Line
   l = e.line
 
@@ -113,7 +113,7 @@ module _ {e f : End} (relaying : Relaying e.line) (j : Joined e f) (k : Packet) 
   heard_joined a b c = payload_joined (news_joined b c) k.carries says.carries a
 
 -- what is assumed of an arriving packet gives all of it
-pub arrival_joined : {e f : End} (s : List ℕ) (k : Packet) → Honest e.past f.past s k → Relaying e.line → verdict (arrive_tests e.line s) ≡ Pass → Joined e f
+pub arrival_joined : {e f : End} (s : List ℕ) (k : Packet) → Honest e.past f.past s k → Relaying e.line → verdict (arrive_tests e.line s) ≡ Ok tt → Joined e f
     → Joined (after_arrival e k s) f
 arrival_joined {e} {f} s k h relaying pass j =
     subst (λ (o : List ℕ). Joined (after_arrival e k o) f) h.same
@@ -121,7 +121,7 @@ arrival_joined {e} {f} s k h relaying pass j =
 
 -- and none of the tests refuses it where the two have one payload type, however old it is
 pub arrival_passes : {within : ℕ} {e f : End} (s : List ℕ) (k : Packet) → runs.Honest within e.past f.past s k → e.line.modes.local ≡ modem → f.line.kind ≡ e.line.kind → Joined e f
-    → (verdict (head_tests s) ≡ Pass) × (verdict (arrive_tests e.line s) ≡ Pass)
+    → (verdict (head_tests s) ≡ Ok tt) × (verdict (arrive_tests e.line s) ≡ Ok tt)
 arrival_passes {e = e} {f} s k h inside same j =
-    subst (λ (o : List ℕ). (verdict (head_tests o) ≡ Pass) × (verdict (arrive_tests e.line o) ≡ Pass)) h.same
+    subst (λ (o : List ℕ). (verdict (head_tests o) ≡ Ok tt) × (verdict (arrive_tests e.line o) ≡ Ok tt)) h.same
     (said_passes f e.line k (each_at h.written j.yours.said) same inside)

@@ -5,8 +5,8 @@ use mathlib.Core.Path.{◌≡◌, refl, sym}
 use mathlib.Core.List.{List, [], ◌∷◌}
 use native.Mathlib.Omega.{arith}
 use lib.ListN.{length, take, get_or}
+use Rattle.std.specs.Prelude.{Ok}
 use Rattle.ground.specs.Refusal.{verdict}
-use Rattle.ground.specs.declared.Verdict.TheVariants.{Pass}
 use Rattle.packet.specs.Acks.{ack_list}
 use Rattle.packet.specs.Write.{packet_octets, write_tests}
 use Rattle.packet.specs.declared.Head.{Head}
@@ -30,7 +30,7 @@ pub first_three_lem : (l : Line) → ack_list (acks_for l) ≡ take 3 (owed_of l
 unfolding acks_for first_three
 first_three_lem l = three (owed_of l.owed)
 
-pub packet_says : (h : Head) (a : Acks) (payload : List ℕ) (largest space : ℕ) → verdict (write_tests h a payload largest space) ≡ Pass → Says (packet_octets h a payload) h a payload
+pub packet_says : (h : Head) (a : Acks) (payload : List ℕ) (largest space : ℕ) → verdict (write_tests h a payload largest space) ≡ Ok tt → Says (packet_octets h a payload) h a payload
 packet_says h a payload largest space pass =
     let s = packet_octets h a payload in
     let x = head_round h a payload largest space pass in

@@ -8,15 +8,12 @@ use native.Mathlib.Omega.{arith}
 use lib.Dec.{eqb, ltb}
 use lib.ListN.{take, drop, get_or}
 use borrow.Author.Tests.{eqb-true, leb-true, ne_eqb}
+use Rattle.std.specs.Prelude.{Option, Some, None, Ok, Err}
 use Rattle.ground.specs.Pick.{pick}
-use Rattle.ground.specs.Refusal.{verdict, settle}
-use Rattle.ground.specs.declared.Verdict.{Verdict}
-use Rattle.ground.specs.declared.Verdict.TheVariants.{Pass}
+use Rattle.ground.specs.Refusal.{Verdict, verdict, settle}
 use Rattle.ground.proofs.Picks.{both_true, clash}
 use Rattle.ground.proofs.Verdicts.{passed}
 use Rattle.places.specs.Places.{mask_of, rank_of}
-use Rattle.places.specs.declared.Place.{Place}
-use Rattle.places.specs.declared.Place.TheVariants.{At, Missing}
 use Rattle.places.proofs.Ranks.{rank_holds}
 use Rattle.packet.specs.Acks.{ack_list}
 use Rattle.packet.specs.Read.{head_at}
@@ -48,7 +45,6 @@ use Rattle.relay.specs.RelayTests.{reliable, relay_channel_tests}
 use Rattle.relay.proofs.Lines.{channel_span, side_served}
 use Rattle.writing.specs.Write.{acks_for, wrote_line, base_for, head_for, empty_packet, empty_tests}
 use Rattle.writing.specs.Send.{ranked, is_held, held_in, send_tests, send_verdict, held_packet, Sendable}
-use Rattle.writing.specs.declared.SendVerdict.TheVariants as may
 use Rattle.writing.proofs.Packets.{empty_passes}
 use Rattle.writing.proofs.Sends.{may_sendable, send_reliable, send_passes}
 use Rattle.writing.proofs.Keeps.{wrote_line_keeps}
@@ -114,7 +110,7 @@ module _ (e : End) (k : Whole e) (channel number space : ℕ) (payload : List �
   abbrev written : List ℕ
   written = packet_octets h (acks_for e.line) payload
 
-  pub written_says : (carried named : List Mark) → verdict (write_tests h (acks_for e.line) payload largest space) ≡ Pass → Names (got e) channel (base_for e.line channel) named
+  pub written_says : (carried named : List Mark) → verdict (write_tests h (acks_for e.line) payload largest space) ≡ Ok tt → Names (got e) channel (base_for e.line channel) named
       → Carries e.past.taken channel number payload carried → Says e (record { octets = written; carries = carried; names = named; acks = take 3 e.past.owes })
   written_says carried named pass base load =
       let r = packet_says h (acks_for e.line) payload largest space pass in
@@ -137,7 +133,7 @@ unfolding base_for
 base_of_lem l channel v = let c = channel_span channel v in rw (ne_eqb channel 0 (λ e. omega (arith, c)))
 
 -- "Empty packet": it names the writer's base, on channel 0 none
-module _ {e f : End} (channel space : ℕ) (pass : verdict (empty_tests e.line channel space) ≡ Pass) (j : Joined e f) where
+module _ {e f : End} (channel space : ℕ) (pass : verdict (empty_tests e.line channel space) ≡ Ok tt) (j : Joined e f) where
   base_names : (c : ℕ) → c ≤ 2 → Names (got e) c (base_for e.line c) (pick (eqb c 0) [] (mark c (receiving_of e.line c).next ∷ []))
   unfolding base_for
   base_names zero q = nothing refl
@@ -159,16 +155,16 @@ module _ {e f : End} (channel space : ℕ) (pass : verdict (empty_tests e.line c
       wrote_joined (empty_by e channel) t.0 (eqb-true _ _ t.1.0) empty_says j
 
 -- "A held message is written by its rank": it is the one taken under its number
-module _ {e f : End} (channel rank space : ℕ) (pass : verdict (send_tests e.line channel rank space) ≡ Pass) (j : Joined e f) where
+module _ {e f : End} (channel rank space : ℕ) (pass : verdict (send_tests e.line channel rank space) ≡ Ok tt) (j : Joined e f) where
   abbrev l : Line
   l = e.line
 
   abbrev held : Held
   held = held_in (ranked l channel rank)
 
-  says_may : send_verdict l channel rank space ≡ may.Message held
+  says_may : send_verdict l channel rank space ≡ Ok held
   unfolding send_verdict
-  says_may = ap (λ (v : Verdict). settle v may.Refused (may.Message held)) pass
+  says_may = ap (λ (v : Verdict). settle v Err (Ok held)) pass
 
   able : Sendable l channel space held
   able = may_sendable l channel rank space j.mine.fits says_may
@@ -192,10 +188,10 @@ module _ {e f : End} (channel rank space : ℕ) (pass : verdict (send_tests e.li
   unfolding send_tests relay_channel_tests
   found = (passed (send_tests l channel rank space) pass).1.1.1.0
 
-  held_data : (p : Place) → rank_of (mask_of s.unacked) rank ≡ p → is_held (held_at w s p) ≡ true
+  held_data : (p : Option ℕ) → rank_of (mask_of s.unacked) rank ≡ p → is_held (held_at w s p) ≡ true
       → Data (e.past.taken channel) (held_in (held_at w s p)).number (octets_in e.part region (held_in (held_at w s p)).place (held_in (held_at w s p)).size)
-  held_data Missing q t = clash t
-  held_data (At n) q t =
+  held_data None q t = clash t
+  held_data (Some n) q t =
       let k = sends_ok j.mine.sides channel in
       let m = ranked_message w slots s rank n k q in
       let g = sending_sized w (send_largest l) s (j.mine.sides.sending channel) in

@@ -12,10 +12,9 @@ use mathlib.Core.List.{List, [], ◌∷◌}
 use native.Mathlib.Omega.{arith}
 use lib.ListN.{length, get_or}
 use borrow.Author.Tests.{le-leb, eqb-true}
-use Rattle.ground.specs.Refusal.{Test, must, verdict, settle}
+use Rattle.std.specs.Prelude.{Option, Some, None, Ok, Err, is_some}
+use Rattle.ground.specs.Refusal.{Verdict, Test, must, verdict, settle}
 use Rattle.ground.specs.declared.Refusal.TheVariants.{NOLINE}
-use Rattle.ground.specs.declared.Verdict.{Verdict}
-use Rattle.ground.specs.declared.Verdict.TheVariants.{Pass}
 use Rattle.ground.proofs.Picks.{clash}
 use Rattle.ground.proofs.Verdicts.{passed, passes, pass_both, verdict_on}
 use Rattle.packet.specs.Read.{head_at, head_tests}
@@ -28,16 +27,13 @@ use Rattle.line.specs.declared.Line.{Line}
 use Rattle.relay.specs.RelayTests.{reliable}
 use Rattle.writing.specs.Write.{acks_for, head_for, empty_packet, empty_tests}
 use Rattle.writing.specs.Send.{held_packet, send_tests, send_verdict, Sendable}
-use Rattle.writing.specs.declared.SendVerdict.TheVariants as may
 use Rattle.writing.proofs.Packets as written
 use Rattle.writing.proofs.Sends.{may_sendable, send_passes}
 use Rattle.arriving.specs.Arrive.{arrive_tests}
-use Rattle.book.specs.declared.Owner.{Owner}
-use Rattle.book.specs.declared.Owner.TheVariants.{At, Nobody}
 use Rattle.book.proofs.Facts.{line_fits_lem}
 use Rattle.book.proofs.OneOwner.{whose_at}
 use Rattle.calls.specs.Call as call
-use Rattle.calls.specs.Order.{line_for, packet_line, is_somebody}
+use Rattle.calls.specs.Order.{line_for, packet_line}
 use Rattle.calls.specs.Stages.{tests, fit_book, roomy, line_number, address_tests, arrival_tests}
 use Rattle.calls.specs.Order as order
 use Rattle.calls.specs.Result.{effect}
@@ -62,7 +58,7 @@ module _ {g : Gateway} {i : ℕ} (r : Ready g i) (inside : Relays g i) (channel 
     abbrev m : Held
     m = held_by g i channel rank
 
-    may_pass : verdict (send_tests l channel rank (length out)) ≡ Pass
+    may_pass : verdict (send_tests l channel rank (length out)) ≡ Ok tt
     may_pass = send_may_by l r.opened inside fits channel rank (length out) v space few
 
     pass : Passes g (call.sending i channel rank) out
@@ -73,7 +69,7 @@ module _ {g : Gateway} {i : ℕ} (r : Ready g i) (inside : Relays g i) (channel 
 
     able : Sendable l channel (length out) m
     unfolding send_verdict
-    able = may_sendable l channel rank (length out) fits (ap (λ (x : Verdict). settle x may.Refused (may.Message m)) may_pass)
+    able = may_sendable l channel rank (length out) fits (ap (λ (x : Verdict). settle x Err (Ok m)) may_pass)
 
     sent : given (does g (call.sending i channel rank) out) ≡ held_packet l channel m (part_in g i)
     unfolding line_for effect
@@ -90,7 +86,7 @@ module _ {g : Gateway} {i : ℕ} (r : Ready g i) (inside : Relays g i) (channel 
 
   -- an empty packet is written
   module _ (c : channel ≤ 2) (space : longest_header ≤ length out) where
-    empty_pass : verdict (empty_tests l channel (length out)) ≡ Pass
+    empty_pass : verdict (empty_tests l channel (length out)) ≡ Ok tt
     empty_pass = empty_may l r.opened inside channel (length out) c space
 
     goes : Passes g (call.empty i channel) out
@@ -116,24 +112,24 @@ module _ (g : Gateway) (s out : List ℕ) (taken : accepts (does g (call.arrival
   abbrev at : ℕ
   at = order.owner_line (packet_line g.book s)
 
-  admitted : verdict (arrival_tests g.book s) ≡ Pass
+  admitted : verdict (arrival_tests g.book s) ≡ Ok tt
   unfolding tests
   admitted = (pass_both (fit_book g.book ∷ roomy g.book (length g.store) ∷ []) (arrival_tests g.book s) (call_passes g (call.arrival s) out taken)).1
 
-  halves : (verdict (address_tests g.book s) ≡ Pass) × (verdict (arrive_tests (line_at g at) s) ≡ Pass)
+  halves : (verdict (address_tests g.book s) ≡ Ok tt) × (verdict (arrive_tests (line_at g at) s) ≡ Ok tt)
   unfolding arrival_tests
   halves = pass_both (address_tests g.book s) (arrive_tests (line_at g at) s) admitted
 
-  found : packet_line g.book s ≡ At at
+  found : packet_line g.book s ≡ Some at
   unfolding address_tests
   found = go (packet_line g.book s) (passed last (pass_both (head_tests s) last halves.0).1).0
     where
       last : List Test
-      last = must (is_somebody (packet_line g.book s)) NOLINE ∷ []
+      last = must (is_some (packet_line g.book s)) NOLINE ∷ []
 
-      go : (w : Owner) → is_somebody w ≡ true → w ≡ At (order.owner_line w)
-      go (At j) e = refl
-      go Nobody e = clash e
+      go : (w : Option ℕ) → is_some w ≡ true → w ≡ Some (order.owner_line w)
+      go (Some j) e = refl
+      go None e = clash e
 
   -- the answer names the line that the packet is for
   pub answers : get_or (does g (call.arrival s) out).answer.values 0 0 ≡ at

@@ -7,8 +7,8 @@ use mathlib.Core.List.{List, [], ◌∷◌, ◌++◌, map}
 use mathlib.Core.Logic.{◌≢◌}
 use native.Mathlib.Omega.{arith}
 use lib.ListN.{length, take}
+use Rattle.std.specs.Prelude.{Ok}
 use Rattle.ground.specs.Refusal.{verdict}
-use Rattle.ground.specs.declared.Verdict.TheVariants.{Pass}
 use Rattle.ground.proofs.Verdicts.{passed}
 use Rattle.ground.proofs.Every.{apart}
 use Rattle.places.specs.Places.{mask_of, bit_of}
@@ -99,7 +99,7 @@ after_handing e channel =
       past = handed_past e.past channel (handed_octets e.line channel e.part);
     }
 
-module _ {e f : End} (channel space : ℕ) (pass : verdict (hand_call_tests e.line channel space) ≡ Pass) (j : Joined e f) where
+module _ {e f : End} (channel space : ℕ) (pass : verdict (hand_call_tests e.line channel space) ≡ Ok tt) (j : Joined e f) where
   abbrev l : Line
   l = e.line
 

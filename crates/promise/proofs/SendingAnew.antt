@@ -9,8 +9,8 @@ use native.Mathlib.Omega.{arith}
 use lib.Dec.{eqb, ltb, leb}
 use lib.ListN.{length}
 use borrow.Author.Tests.{eqb-true, eq-eqb, ne_eqb, ltb-true}
+use Rattle.std.specs.Prelude.{Ok}
 use Rattle.ground.specs.Refusal.{verdict}
-use Rattle.ground.specs.declared.Verdict.TheVariants.{Pass}
 use Rattle.ground.proofs.Picks.{pick_by, both_true}
 use Rattle.ground.proofs.Verdicts.{passed}
 use Rattle.ground.proofs.Every.{apart}
@@ -46,7 +46,7 @@ use Rattle.promise.proofs.Views.{SameSlots, sends_kept, receives_kept, sending_h
 use Rattle.promise.proofs.Ends.{End, Joined, sent, got, sends_ok, gets_ok, wide, relay_sides, came_on, said_on, grows_none, flow_as}
 
 -- a relay call that is answered finds the line open and in modem relay
-pub asked_open : (l : Line) (channel : ℕ) → verdict (relay_channel_tests l channel) ≡ Pass → (is_open l ≡ true) × (l.modes.local ≡ modem)
+pub asked_open : (l : Line) (channel : ℕ) → verdict (relay_channel_tests l channel) ≡ Ok tt → (is_open l ≡ true) × (l.modes.local ≡ modem)
 unfolding relay_channel_tests
 asked_open l channel e = let t = passed (relay_channel_tests l channel) e in (t.0, eqb-true _ _ t.1.0)
 
@@ -118,7 +118,7 @@ after_taking e channel m =
       past = took_past e.past channel m;
     }
 
-pub taking_joined : {e f : End} (channel : ℕ) (m : Message) → verdict (take_call_tests e.line channel (length m)) ≡ Pass → Joined e f
+pub taking_joined : {e f : End} (channel : ℕ) (m : Message) → verdict (take_call_tests e.line channel (length m)) ≡ Ok tt → Joined e f
     → Joined (after_taking e channel m) f
 taking_joined {e} {f} channel m pass j =
     let l = e.line in

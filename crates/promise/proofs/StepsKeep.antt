@@ -7,10 +7,10 @@ use mathlib.Core.List.{List, [], ◌∷◌, Memᴰ}
 use native.Mathlib.Omega.{arith}
 use lib.ListN.{length}
 use borrow.Author.Tests.{le-leb}
+use Rattle.std.specs.Prelude.{Option, Some, Ok, is_some}
 use Rattle.ground.specs.Pick.{pick}
 use Rattle.ground.specs.Refusal.{verdict, must}
 use Rattle.ground.specs.declared.Refusal.TheVariants.{NOLINE}
-use Rattle.ground.specs.declared.Verdict.TheVariants.{Pass}
 use Rattle.ground.proofs.Verdicts.{passes, verdict_on}
 use Rattle.packet.specs.Read.{head_at, head_tests}
 use Rattle.line.specs.Line.{closed_line}
@@ -22,13 +22,11 @@ use Rattle.arriving.proofs.Keeps.{arrived_part_length, arrived_in_store}
 use Rattle.book.proofs.Parts.{part_in_lem}
 use Rattle.book.specs.Book.{fresh_book, line_of, owner_of}
 use Rattle.book.specs.Parts.{part_start, store_length}
-use Rattle.book.specs.declared.Owner.{Owner}
-use Rattle.book.specs.declared.Owner.TheVariants.{At}
 use Rattle.book.proofs.Facts.{line_fits_lem}
 use Rattle.book.proofs.OneOwner.{whose_found}
 use Rattle.calls.specs.Call.{Call}
 use Rattle.calls.specs.Call as call
-use Rattle.calls.specs.Order.{line_for, is_somebody, packet_line}
+use Rattle.calls.specs.Order.{line_for, packet_line}
 use Rattle.calls.specs.Stages.{tests, fit_book, roomy, address_tests, arrival_tests}
 use Rattle.calls.specs.Order as order
 use Rattle.calls.specs.Result.{effect}
@@ -66,12 +64,12 @@ module _ {within i j identifier kind : ℕ} {g h : Gateway} {p q : Past} (s : So
   peer : (q.opened ≡ true) × Open identifier kind (line_at h j)
   peer = peer_open t.phase honest.written
 
-  pub asks : (verdict (head_tests o) ≡ Pass) × (verdict (arrive_tests (line_at g i) o) ≡ Pass)
+  pub asks : (verdict (head_tests o) ≡ Ok tt) × (verdict (arrive_tests (line_at g i) o) ≡ Ok tt)
   asks =
       let same : (pick q.opened (line_at h j) closed_line).kind ≡ (line_at g i).kind = rw peer.0 (peer.1.typed ∙ sym own.typed) in
       arrival_passes o packet honest r same (joined_open s opened k out)
 
-  found : packet_line g.book o ≡ At i
+  found : packet_line g.book o ≡ Some i
   found =
       let says : (head_at packet.octets).identifier ≡ (pick q.opened (line_at h j) closed_line).identifier = (each_at honest.written k.yours.said).named in
       let its : (head_at o).identifier ≡ (line_at g i).identifier
@@ -88,8 +86,8 @@ module _ {within i j identifier kind : ℕ} {g h : Gateway} {p q : Past} (s : So
       let b = g.book in
       verdict_on (fit_book b ∷ roomy b (length g.store) ∷ []) (arrival_tests b o) (passes (fit_book b ∷ roomy b (length g.store) ∷ []) (s.fits, (le-leb _ _ s.long, tt)))
       ∙ verdict_on (address_tests b o) (arrive_tests (line_of b (order.owner_line (packet_line b o))) o)
-      (verdict_on (head_tests o) (must (is_somebody (packet_line b o)) NOLINE ∷ []) asks.0 ∙ rw found)
-      ∙ ap (λ (x : Owner). verdict (arrive_tests (line_of b (order.owner_line x)) o)) found ∙ asks.1
+      (verdict_on (head_tests o) (must (is_some (packet_line b o)) NOLINE ∷ []) asks.0 ∙ rw found)
+      ∙ ap (λ (x : Option ℕ). verdict (arrive_tests (line_of b (order.owner_line x)) o)) found ∙ asks.1
 
   abbrev pub comes : Call
   comes = call.arrival o

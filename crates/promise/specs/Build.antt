@@ -1,11 +1,8 @@
 -- A build: what its calls do to a book, a store and an output, and what its bodies and slips read and write. What a promise asks is asked of any.
 -- Assumes nothing.
-use Rattle.std.specs.Prelude.{ℕ, List, length, take, get_or}
+use Rattle.std.specs.Prelude.{ℕ, List, length, take, get_or, Result, Ok, Err}
 use Rattle.ground.specs.Answer.{Answer, write_says, contents}
-use Rattle.ground.specs.Refusal.{verdict, settle}
-use Rattle.ground.specs.declared.Verdict.{Verdict}
-use Rattle.ground.specs.declared.WriteAnswer.{WriteAnswer}
-use Rattle.ground.specs.declared.WriteAnswer.TheVariants.{Wrote, Refused}
+use Rattle.ground.specs.Refusal.{Verdict, verdict, settle}
 use Rattle.connect.specs.Read.{connect_read}
 use Rattle.connect.specs.Read as connect
 use Rattle.connect.specs.Write.{connect_octets}
@@ -17,6 +14,7 @@ use Rattle.slip.specs.Slip as slip
 use Rattle.book.specs.declared.Book.{Book}
 use Rattle.calls.specs.Call.{Call}
 use Rattle.calls.specs.Result.{CallResult, result_of}
+use Rattle.ground.specs.declared.Refusal.{Refusal}
 
 -- a call on a book, with the store and the output that are lent to it
 abbrev pub Does : Type 0
@@ -46,7 +44,7 @@ pub record Build : Type 0 where
 -- octets written into an output, or a refusal
 abbrev pub left_by : Verdict → List ℕ → List ℕ → Left
 left_by v octets out =
-    let w : WriteAnswer = settle v Refused (Wrote (length octets)) in
+    let w : Result ℕ Refusal = settle v Err (Ok (length octets)) in
     record { answer = write_says w; out = contents w octets out }
 
 -- OURS: the definitions that the code is proved to meet, answers as document 01's numbers and values

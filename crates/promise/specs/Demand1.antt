@@ -1,11 +1,10 @@
 -- DEMAND 1, asked of any build: whatever a call is handed, it refuses by the first of its tests that fails, in the order of the rules, and a refusal
 -- changes nothing. `order` is the list of a call's tests (RULES section 14). That a call ends is no question here, where each is a function.
 -- Assumes nothing.
-use Rattle.std.specs.Prelude.{ℕ, ◌≡◌, List, length}
+use Rattle.std.specs.Prelude.{ℕ, ◌≡◌, List, length, Ok, Err}
 use Rattle.ground.specs.Answer.{refused}
 use Rattle.ground.specs.Refusal.{Test, verdict}
 use Rattle.ground.specs.declared.Refusal.{Refusal}
-use Rattle.ground.specs.declared.Verdict.TheVariants.{Pass, Refuse}
 use Rattle.connect.specs.Read as connect
 use Rattle.connect.specs.Write as body
 use Rattle.connect.specs.declared.Connect.{Connect}
@@ -20,8 +19,8 @@ use Rattle.promise.specs.Build.{Left, Build}
 
 -- An outcome x, by the tests that were made: where one fails, it is the refusal of the first that does, `unchanged`; where none fails, its number is 0.
 pub record Settled {A : Type 0} (ts : List Test) (unchanged : Refusal → A) (number : A → ℕ) (x : A) : Type 0 where
-  pub refuses : (r : Refusal) → verdict ts ≡ Refuse r → x ≡ unchanged r
-  pub accepts : verdict ts ≡ Pass → number x ≡ 0
+  pub refuses : (r : Refusal) → verdict ts ≡ Err r → x ≡ unchanged r
+  pub accepts : verdict ts ≡ Ok tt → number x ≡ 0
 
 -- a body that is refused: the number alone, and the output as it was
 abbrev pub unwritten : List ℕ → Refusal → Left

@@ -1,11 +1,10 @@
 -- DEMAND 2, asked of any build: bodies, slips and packets are written where they may be and read back, a packet that may be let in is, no relay packet
 -- is accepted outside modem relay, and the media modes move as Annex C permits and by nothing else.
 -- Assumes nothing.
-use Rattle.std.specs.Prelude.{ℕ, ◌%◌, ◌≤◌, ◌<◌, ◌≡◌, Bool, true, false, List, [], ◌∷◌, ◌++◌, eqb, length, drop, get_or}
+use Rattle.std.specs.Prelude.{ℕ, ◌%◌, ◌≤◌, ◌<◌, ◌≡◌, Bool, true, false, List, [], ◌∷◌, ◌++◌, eqb, length, drop, get_or, Ok}
 use Rattle.ground.specs.Answer.{Answer, accepted}
 use Rattle.ground.specs.Pick.{bit}
 use Rattle.ground.specs.Refusal.{verdict}
-use Rattle.ground.specs.declared.Verdict.TheVariants.{Pass}
 use Rattle.packet.specs.Read.{longest_header, head_at, acks_at, payload_of, head_tests, list_tests}
 use Rattle.packet.specs.Write.{packet_octets}
 use Rattle.packet.specs.declared.Head.{Head}
@@ -14,13 +13,10 @@ use Rattle.connect.specs.Read.{connect_at}
 use Rattle.connect.specs.Read as connect
 use Rattle.connect.specs.Write as body
 use Rattle.connect.specs.declared.Connect.{Connect}
-use Rattle.connect.specs.declared.Reading.TheVariants as connect_reading
 use Rattle.breaks.specs.Break.{break_at}
 use Rattle.breaks.specs.Break as breaks
 use Rattle.breaks.specs.declared.Break.{Break}
-use Rattle.breaks.specs.declared.Reading.TheVariants as break_reading
 use Rattle.slip.specs.Slip as slip
-use Rattle.slip.specs.declared.Reading.TheVariants as slip_reading
 use Rattle.channel.specs.Channel.{modulus}
 use Rattle.sending.specs.Sending.{held_count}
 use Rattle.sending.specs.declared.Held.{Held}
@@ -62,8 +58,8 @@ pub record Back (w : Left) (octets : List ℕ) (read : List ℕ → Answer) (say
 -- a packet: its octets, most significant first, and what they say
 pub record Says (s : List ℕ) (head : Head) (acks : Acks) (payload : List ℕ) : Type 0 where
   pub octets : s ≡ packet_octets head acks payload
-  pub plain : verdict (head_tests s) ≡ Pass
-  pub listed : verdict (list_tests s) ≡ Pass
+  pub plain : verdict (head_tests s) ≡ Ok tt
+  pub listed : verdict (list_tests s) ≡ Ok tt
   pub head_back : head_at s ≡ head
   pub acks_back : acks_at s ≡ acks
   pub payload_back : payload_of s ≡ payload
@@ -96,7 +92,7 @@ pub record Entitled (l : Line) (s : List ℕ) : Type 0 where
 
 -- all tests of a call hold
 abbrev pub May : Gateway → Call → List ℕ → Type 0
-May g c out = verdict (order c g.book (length g.store) (length out)) ≡ Pass
+May g c out = verdict (order c g.book (length g.store) (length out)) ≡ Ok tt
 
 -- What a call leaves whose tests hold, whole: the answer, the book, the store and the output.
 
@@ -146,13 +142,13 @@ Gone m = (has_left m ≡ true) × (m.local ≡ modem → ⊥)
 
 pub record Demand2 (b : Build) : Type 0 where
   -- every body that may be written is, and reads back; every body that may be read says what stands at its places
-  pub connect_back : (c : Connect) (out : List ℕ) → verdict (body.write_tests c (length out)) ≡ Pass
-      → Back (b.bodies.connect_write c out) (body.connect_octets c) b.bodies.connect_read (connect.answer_of (connect_reading.Says c))
-  pub connect_read_lem : (s : List ℕ) → verdict (connect.read_tests s) ≡ Pass → b.bodies.connect_read s ≡ connect.answer_of (connect_reading.Says (connect_at s))
-  pub break_back : (c : Break) (out : List ℕ) → verdict (breaks.write_tests c (length out)) ≡ Pass
-      → Back (b.bodies.break_write c out) (breaks.break_octets c) b.bodies.break_read (breaks.answer_of (break_reading.Says c))
-  pub break_read_lem : (s : List ℕ) → verdict (breaks.read_tests s) ≡ Pass → b.bodies.break_read s ≡ breaks.answer_of (break_reading.Says (break_at s))
-  pub slip_read_lem : (s : List ℕ) → verdict (slip.read_tests s) ≡ Pass → b.bodies.slip_read s ≡ slip.answer_of (slip_reading.Says (slip.slip_at s))
+  pub connect_back : (c : Connect) (out : List ℕ) → verdict (body.write_tests c (length out)) ≡ Ok tt
+      → Back (b.bodies.connect_write c out) (body.connect_octets c) b.bodies.connect_read (connect.answer_of (Ok c))
+  pub connect_read_lem : (s : List ℕ) → verdict (connect.read_tests s) ≡ Ok tt → b.bodies.connect_read s ≡ connect.answer_of (Ok (connect_at s))
+  pub break_back : (c : Break) (out : List ℕ) → verdict (breaks.write_tests c (length out)) ≡ Ok tt
+      → Back (b.bodies.break_write c out) (breaks.break_octets c) b.bodies.break_read (breaks.answer_of (Ok c))
+  pub break_read_lem : (s : List ℕ) → verdict (breaks.read_tests s) ≡ Ok tt → b.bodies.break_read s ≡ breaks.answer_of (Ok (break_at s))
+  pub slip_read_lem : (s : List ℕ) → verdict (slip.read_tests s) ≡ Ok tt → b.bodies.slip_read s ≡ slip.answer_of (Ok (slip.slip_at s))
   -- "Closing writes a slip", and "Slips are also read back"
   pub slip_back : (g : Gateway) (i : ℕ) → Ready g i → (out : List ℕ) → slip.slip_length ≤ length out
       → let l = line_at g i in
@@ -185,11 +181,11 @@ pub record Demand2 (b : Build) : Type 0 where
   -- "media modes are those": a mode call says, and makes of the line, what its sentences say, accepted or refused
   pub moves : (g : Gateway) (i : ℕ) → Ready g i → (a : Act) (out : List ℕ) → does b.does g (call.mode i a) out ≡ moved_result g i a out
   -- an indication that may be heard is, S is what the paper chooses, and Table C.2 permits it; a request names S
-  pub hears : (g : Gateway) (i : ℕ) → Ready g i → (k time : ℕ) → verdict (hear_tests (line_at g i).modes k time) ≡ Pass → (out : List ℕ)
+  pub hears : (g : Gateway) (i : ℕ) → Ready g i → (k time : ℕ) → verdict (hear_tests (line_at g i).modes k time) ≡ Ok tt → (out : List ℕ)
       → (accepts (does b.does g (call.mode i (hear k time)) out) ≡ true)
       × ((line_at (after b.does g (call.mode i (hear k time)) out) i).modes.local ≡ heard_mode (line_at g i).modes k)
       × (permitted k (line_at (after b.does g (call.mode i (hear k time)) out) i).modes.local ≡ true)
-  pub asks : (g : Gateway) (i : ℕ) → Ready g i → (k time : ℕ) → verdict (ask_tests (line_at g i).modes k time) ≡ Pass → (out : List ℕ)
+  pub asks : (g : Gateway) (i : ℕ) → Ready g i → (k time : ℕ) → verdict (ask_tests (line_at g i).modes k time) ≡ Ok tt → (out : List ℕ)
       → (accepts (does b.does g (call.mode i (ask k time)) out) ≡ true) × ((line_at (after b.does g (call.mode i (ask k time)) out) i).modes.local ≡ k)
   -- "Leaving m, for any cause, ends relay for that opening"
   pub leaves : (g : Gateway) (i : ℕ) → Ready g i → (a : Act) (out : List ℕ)

@@ -1,9 +1,8 @@
 -- THE NOTES ARE TRUE. Demand 3's premise is measured on what is noted beside each packet (`Packet`), in full numbers. This says that the notes hide
 -- nothing: they are what the packet's octets say, in 14 bits, and it is true of the end that wrote it.
 -- Assumes nothing.
-use Rattle.std.specs.Prelude.{ℕ, ◌%◌, ◌≤◌, ◌≡◌, true, false, List, [], ◌∷◌, map}
+use Rattle.std.specs.Prelude.{ℕ, ◌%◌, ◌≤◌, ◌≡◌, true, false, List, [], ◌∷◌, map, Ok}
 use Rattle.ground.specs.Refusal.{verdict}
-use Rattle.ground.specs.declared.Verdict.TheVariants.{Pass}
 use Rattle.field.specs.Word.{word_of}
 use Rattle.packet.specs.Acks.{ack_list}
 use Rattle.packet.specs.Read.{head_at, acks_at, payload_of, head_tests, list_tests, payload_fits}
@@ -41,8 +40,8 @@ pub data Carries (taken : ℕ → List Message) (channel number : ℕ) (payload 
 -- the notes beside packet k
 pub record Noted (identifier kind : ℕ) (taken : ℕ → List Message) (views : ℕ → Receives) (k : Packet) : Type 0 where
   -- its octets pass every test of an arrival, and are for the line
-  pub plain : verdict (head_tests k.octets) ≡ Pass
-  pub listed : verdict (list_tests k.octets) ≡ Pass
+  pub plain : verdict (head_tests k.octets) ≡ Ok tt
+  pub listed : verdict (list_tests k.octets) ≡ Ok tt
   pub sized : payload_fits k.octets largest ≡ true
   pub named : (head_at k.octets).identifier ≡ identifier
   pub typed : (head_at k.octets).kind ≡ kind

@@ -10,7 +10,7 @@ ghost use Rattle.places.specs.Places.{widest};
 ghost use Rattle.receiving.specs.Receiving.{ReceivingOk, fresh_receiving, arrival_of, arrival_place, stored_at, handed_out, emptied_receiving, next_size, hand_tests, receiving_fits};
 
 use channel::{Channel, distance, place, sizes_fit};
-use ground::{Refusal, Verdict};
+use ground::Refusal;
 use places::Places;
 
 #[repr(C)]
@@ -88,16 +88,16 @@ impl Receiving {
     }
 
     // May message R be handed out? SPENT, then NOTHING.
-    pub fn may_hand_out(self) -> Verdict
+    pub fn may_hand_out(self) -> Result<(), Refusal>
         ensures { result ≡ verdict (hand_tests self) }
     {
         if Channel::CAP <= self.next {
-            return Verdict::Refuse(Refusal::SPENT);
+            return Err(Refusal::SPENT);
         }
-        if self.stored.has(0) {
-            return Verdict::Pass;
+        if !self.stored.has(0) {
+            return Err(Refusal::NOTHING);
         }
-        Verdict::Refuse(Refusal::NOTHING)
+        Ok(())
     }
 
     // The size of message R, which lies at place `origin`.

@@ -8,6 +8,7 @@ use mathlib.Core.Path.{◌∙◌, ◌≡◌, ap, refl, sym}
 use native.Mathlib.Omega.{arith}
 use lib.Dec.{eqb, lit<}
 use lib.ListN.{length}
+use Rattle.std.specs.Prelude.{Err}
 use Rattle.arriving.specs.Arrive.{arrived_line, news_line}
 use Rattle.arriving.specs.Effect.{acked_all, heard_line, stored_line}
 use Rattle.book.proofs.Fresh.{fresh_fits}
@@ -26,7 +27,6 @@ use Rattle.ground.specs.Every.{every}
 use Rattle.ground.specs.Pick.{pick}
 use Rattle.ground.specs.Refusal.{verdict}
 use Rattle.ground.specs.declared.Refusal.TheVariants.{NOLINE, RANGE, ROOM}
-use Rattle.ground.specs.declared.Verdict.TheVariants.{Refuse}
 use Rattle.line.specs.Fit.{line_fits}
 use Rattle.line.specs.Mode.{stepped_to}
 use Rattle.line.specs.declared.Line.{Line}
@@ -53,7 +53,7 @@ use Rattle.channel.specs.Sizes as sizes
 use Rattle.packet.specs.Read as packet
 
 -- a line number over 3 is refused RANGE, of a book that BOOK lets pass
-past_range : (b : Book) → book_fits b ≡ true → (store space : ℕ) → verdict (order (call.closing 4) b store space) ≡ Refuse RANGE
+past_range : (b : Book) → book_fits b ≡ true → (store space : ℕ) → verdict (order (call.closing 4) b store space) ≡ Err RANGE
 unfolding order close_order
 past_range b fits store space = rw fits refl
 
@@ -67,7 +67,7 @@ renumbered_fails f other d =
 pub reordered_fails : Demand1 reordered → ⊥
 unfolding order close_order
 reordered_fails d =
-    let first : verdict (order (call.closing 0) fresh_book 0 0) ≡ Refuse NOLINE = rw fresh_fits refl in
+    let first : verdict (order (call.closing 0) fresh_book 0 0) ≡ Err NOLINE = rw fresh_fits refl in
     let theirs : reordered.does (call.closing 0) fresh_book [] [] ≡ result_with (refused ROOM) fresh_book [] [] = rw fresh_fits refl in
     let m : ◌≡◌ {A = ℕ} 11 4 = ap (λ (x : CallResult). x.answer.number) (sym theirs ∙ (d.calls (call.closing 0) fresh_book [] []).refuses NOLINE first) in
     omega (arith, m)

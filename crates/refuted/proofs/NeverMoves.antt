@@ -9,11 +9,11 @@ use native.Mathlib.Omega.{arith}
 use lib.Dec.{lit≤, eqb, ltb}
 use lib.ListN.{length, get_or, set, length-append}
 use borrow.Author.Tests.{ltb-true}
+use Rattle.std.specs.Prelude.{Ok}
 use Rattle.ground.specs.Every.{every}
 use Rattle.ground.specs.Pick.{pick}
 use Rattle.ground.specs.Refusal.{must, verdict}
 use Rattle.ground.specs.declared.Refusal.TheVariants.{SIZE}
-use Rattle.ground.specs.declared.Verdict.TheVariants.{Pass}
 use Rattle.ground.proofs.Picks.{pick_by}
 use Rattle.ground.proofs.Settled.{settled_by}
 use Rattle.ground.proofs.Verdicts.{passed, pass_both}
@@ -133,7 +133,7 @@ stepped_low l k m Emptied c = go (eqb c 1) (k c)
     go false a = record { base = a.base; few = a.few }
 
 -- "A message is taken only if S - h is below the window"
-take_low : (l : Line) → LowLine l → (channel n : ℕ) → verdict (take_call_tests l channel n) ≡ Pass → LowLine (took_line l channel n)
+take_low : (l : Line) → LowLine l → (channel n : ℕ) → verdict (take_call_tests l channel n) ≡ Ok tt → LowLine (took_line l channel n)
 unfolding take_call_tests took_one
 take_low l k channel n e =
     let s = sending_of l channel in
@@ -143,7 +143,7 @@ take_low l k channel n e =
 
 -- a call that does as ours
 ours_low : (c : Call) (b : Book) (store out : List ℕ) → LowBook b
-    → (verdict (tests c b (length store) (length out)) ≡ Pass → LowLine (effect c (line_for c b) (line_of b (line_for c b)) (part_start b (line_for c b)) store out).line)
+    → (verdict (tests c b (length store) (length out)) ≡ Ok tt → LowLine (effect c (line_for c b) (line_of b (line_for c b)) (part_start b (line_for c b)) store out).line)
     → LowBook (result_of c b store out).book
 unfolding result_of accepted_result closed_at
 ours_low c b store out k line =

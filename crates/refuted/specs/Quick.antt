@@ -2,13 +2,11 @@
 -- isolation.
 -- Assumes nothing.
 use Rattle.line.specs.Figures.{send_window}
-use Rattle.std.specs.Prelude.{ℕ, ◌+◌, ◌*◌, ◌/◌, ◌%◌, Bool, true, false, List, [], ◌∷◌, ltb, eqb, drop, get_or}
+use Rattle.std.specs.Prelude.{ℕ, ◌+◌, ◌*◌, ◌/◌, ◌%◌, Bool, true, false, List, [], ◌∷◌, ltb, eqb, drop, get_or, Option, Some, None}
 use Rattle.ground.specs.Pick.{pick}
 use Rattle.packet.specs.Read.{head_at}
 use Rattle.channel.specs.Channel.{modulus}
 use Rattle.places.specs.Places.{mask_of, rank_of}
-use Rattle.places.specs.declared.Place.{Place}
-use Rattle.places.specs.declared.Place.TheVariants.{At, Missing}
 use Rattle.sending.specs.Sending.{under_way, moved_by}
 use Rattle.sending.specs.declared.Sending.{Sending}
 use Rattle.receiving.specs.declared.Arrival.{Arrival}
@@ -31,9 +29,9 @@ abbrev pub callers_line : Build
 callers_line = doing (arriving misleads)
 
 -- "Freeing send room on acknowledgement alone": h moves on to the oldest message that is not acknowledged
-abbrev past_acked : ℕ → Sending → Place → Sending
-past_acked w s (At d) = moved_by w s d
-past_acked w s Missing = moved_by w s (under_way s)
+abbrev past_acked : ℕ → Sending → Option ℕ → Sending
+past_acked w s (Some d) = moved_by w s d
+past_acked w s None = moved_by w s (under_way s)
 
 abbrev freed : Line → Line
 freed l =

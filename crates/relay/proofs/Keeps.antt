@@ -7,8 +7,8 @@ use native.Mathlib.Omega.{arith}
 use mathlib.Core.List.{List}
 use lib.ListN.{length, length-set}
 use lib.Seq.{sets, length-sets}
+use Rattle.std.specs.Prelude.{Ok}
 use Rattle.ground.specs.Refusal.{verdict}
-use Rattle.ground.specs.declared.Verdict.TheVariants.{Pass}
 use Rattle.sending.specs.Sending.{next_place, took_one}
 use Rattle.receiving.specs.Receiving.{handed_out}
 use Rattle.flow.proofs.Keeps.{took_keeps, handed_keeps}
@@ -36,7 +36,7 @@ pub handed_line_same : (l : Line) (channel : ℕ) → SameSettings l (handed_lin
 handed_line_same l channel = with_receiving_same l channel (handed_out (receive_window l channel) (receiving_of l channel))
 
 -- where all tests pass, what BOOK asks is kept, and so are the lengths of the line's arrays
-pub took_line_keeps : (l : Line) (channel n : ℕ) → line_fits l ≡ true → Shaped l → verdict (take_call_tests l channel n) ≡ Pass
+pub took_line_keeps : (l : Line) (channel n : ℕ) → line_fits l ≡ true → Shaped l → verdict (take_call_tests l channel n) ≡ Ok tt
     → (line_fits (took_line l channel n) ≡ true) × Shaped (took_line l channel n)
 unfolding took_one
 took_line_keeps l channel n fits shaped pass =
@@ -50,7 +50,7 @@ took_line_keeps l channel n fits shaped pass =
     let t = took_keeps w (send_largest l) narrow s (sending_side l k m channel) n (omega (arith, z, narrow)) (take_side l fits channel n pass) (take_fits l fits channel n pass) in
     (ok_line (took_line l channel n) (with_sending_ok l k m channel (took_one w s n) t), with_sending_shaped l shaped channel (took_one w s n) (length-set s.sizes (next_place w s) n ∙ z))
 
-pub handed_line_keeps : (l : Line) (channel space : ℕ) → line_fits l ≡ true → Shaped l → verdict (hand_call_tests l channel space) ≡ Pass
+pub handed_line_keeps : (l : Line) (channel space : ℕ) → line_fits l ≡ true → Shaped l → verdict (hand_call_tests l channel space) ≡ Ok tt
     → (line_fits (handed_line l channel) ≡ true) × Shaped (handed_line l channel)
 unfolding handed_out
 handed_line_keeps l channel space fits shaped pass =
@@ -67,7 +67,7 @@ pub took_part_length : (l : Line) (channel : ℕ) (message part : List ℕ) → 
 took_part_length l channel message part = length-sets part (slot_at (region_of l Sending channel) (next_place (send_window l channel) (sending_of l channel))) message
 
 -- what is put into the part is put into the store
-pub took_in_store : (l : Line) (channel : ℕ) (message store : List ℕ) (start : ℕ) → line_fits l ≡ true → verdict (take_call_tests l channel (length message)) ≡ Pass → start + part_length l ≤ length store
+pub took_in_store : (l : Line) (channel : ℕ) (message store : List ℕ) (start : ℕ) → line_fits l ≡ true → verdict (take_call_tests l channel (length message)) ≡ Ok tt → start + part_length l ≤ length store
     → with_part_at start (part_length l) store (took_part l channel message (part_at start (part_length l) store)) ≡ took_store l start channel message store
 took_in_store l channel message store start fits pass inside =
     let n = length message in

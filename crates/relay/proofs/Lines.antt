@@ -9,9 +9,9 @@ use mathlib.Core.Path.{◌≡◌}
 use mathlib.Core.Bool.{true}
 use lib.Dec.{eqb, ltb, leb}
 use borrow.Author.Tests.{eqb-true, ltb-true, leb-true}
+use Rattle.std.specs.Prelude.{Ok}
 use Rattle.ground.specs.Refusal.{must, verdict}
 use Rattle.ground.specs.declared.Refusal.TheVariants.{SIZE, ROOM}
-use Rattle.ground.specs.declared.Verdict.TheVariants.{Pass}
 use Rattle.ground.proofs.Verdicts.{Holds, passed, pass_both}
 use Rattle.ground.proofs.Picks.{both_true, pick_lt}
 use Rattle.ground.proofs.Either.{or_cases}
@@ -39,7 +39,7 @@ use Rattle.relay.specs.RelayTests.{reliable, relay_channel_tests}
 use Rattle.relay.specs.Take.{take_call_tests}
 use Rattle.relay.specs.HandOut.{hand_call_tests}
 
-module _ (l : Line) (fits : line_fits l ≡ true) (channel : ℕ) (pass : verdict (relay_channel_tests l channel) ≡ Pass) where
+module _ (l : Line) (fits : line_fits l ≡ true) (channel : ℕ) (pass : verdict (relay_channel_tests l channel) ≡ Ok tt) where
   tests : Holds (relay_channel_tests l channel)
   tests = passed (relay_channel_tests l channel) pass
 
@@ -81,12 +81,12 @@ pub slot_in : (l : Line) (way : Way) (channel p n : ℕ) → reliable channel �
 slot_in l way channel p n e = slot_there l (record { way = way; channel = channel }) (side_served way channel e) p n
 
 -- all tests before a message is taken pass
-module _ (l : Line) (fits : line_fits l ≡ true) (channel n : ℕ) (pass : verdict (take_call_tests l channel n) ≡ Pass) where
-  parts : (verdict (relay_channel_tests l channel) ≡ Pass) × (verdict (must (message_fits (send_largest l) n) SIZE ∷ take_tests (send_window l channel) (sending_of l channel)) ≡ Pass)
+module _ (l : Line) (fits : line_fits l ≡ true) (channel n : ℕ) (pass : verdict (take_call_tests l channel n) ≡ Ok tt) where
+  parts : (verdict (relay_channel_tests l channel) ≡ Ok tt) × (verdict (must (message_fits (send_largest l) n) SIZE ∷ take_tests (send_window l channel) (sending_of l channel)) ≡ Ok tt)
   unfolding take_call_tests
   parts = pass_both (relay_channel_tests l channel) (must (message_fits (send_largest l) n) SIZE ∷ take_tests (send_window l channel) (sending_of l channel)) pass
 
-  pub take_asked : verdict (relay_channel_tests l channel) ≡ Pass
+  pub take_asked : verdict (relay_channel_tests l channel) ≡ Ok tt
   take_asked = parts.0
 
   rest : Holds (must (message_fits (send_largest l) n) SIZE ∷ take_tests (send_window l channel) (sending_of l channel))
@@ -102,7 +102,7 @@ module _ (l : Line) (fits : line_fits l ≡ true) (channel n : ℕ) (pass : verd
   pub take_size : n ≤ send_largest l
   take_size = leb-true _ _ (both_true (ltb 0 n) (leb n (send_largest l)) take_fits).1
 
-  pub take_side : verdict (take_tests (send_window l channel) (sending_of l channel)) ≡ Pass
+  pub take_side : verdict (take_tests (send_window l channel) (sending_of l channel)) ≡ Ok tt
   take_side = (pass_both (must (message_fits (send_largest l) n) SIZE ∷ []) (take_tests (send_window l channel) (sending_of l channel)) parts.1).1
 
   pub take_steps : SendingOk (send_window l channel) (sending_of l channel)
@@ -118,21 +118,21 @@ module _ (l : Line) (fits : line_fits l ≡ true) (channel n : ℕ) (pass : verd
   take_place = place_lt (send_window l channel) (sending_of l channel).origin (under_way (sending_of l channel)) take_steps.placed (omega (arith, take_window))
 
 -- all tests before a message is handed out pass
-module _ (l : Line) (fits : line_fits l ≡ true) (channel space : ℕ) (pass : verdict (hand_call_tests l channel space) ≡ Pass) where
+module _ (l : Line) (fits : line_fits l ≡ true) (channel space : ℕ) (pass : verdict (hand_call_tests l channel space) ≡ Ok tt) where
   abbrev side : Receiving
   side = receiving_of l channel
 
-  asked_first : (verdict (relay_channel_tests l channel) ≡ Pass) × (verdict (hand_tests side ++ (must (leb (next_size side) space) ROOM ∷ [])) ≡ Pass)
+  asked_first : (verdict (relay_channel_tests l channel) ≡ Ok tt) × (verdict (hand_tests side ++ (must (leb (next_size side) space) ROOM ∷ [])) ≡ Ok tt)
   unfolding hand_call_tests
   asked_first = pass_both (relay_channel_tests l channel) (hand_tests side ++ (must (leb (next_size side) space) ROOM ∷ [])) pass
 
-  then_side : (verdict (hand_tests side) ≡ Pass) × (verdict (must (leb (next_size side) space) ROOM ∷ []) ≡ Pass)
+  then_side : (verdict (hand_tests side) ≡ Ok tt) × (verdict (must (leb (next_size side) space) ROOM ∷ []) ≡ Ok tt)
   then_side = pass_both (hand_tests side) (must (leb (next_size side) space) ROOM ∷ []) asked_first.1
 
-  pub hand_asked : verdict (relay_channel_tests l channel) ≡ Pass
+  pub hand_asked : verdict (relay_channel_tests l channel) ≡ Ok tt
   hand_asked = asked_first.0
 
-  pub hand_side : verdict (hand_tests (receiving_of l channel)) ≡ Pass
+  pub hand_side : verdict (hand_tests (receiving_of l channel)) ≡ Ok tt
   hand_side = then_side.0
 
   pub hand_reliable : reliable channel ≡ true

@@ -3,9 +3,8 @@
 // lets it pass. The verdicts of taking and handing out ask that the line meets what BOOK asks; `calls` tests the book and the store's length before that.
 #![tactic(auto)]
 
-ghost use Rattle.std.specs.Prelude.{◌≡◌, true, ◌≤◌, ◌<◌, ◌++◌, length, drop};
+ghost use Rattle.std.specs.Prelude.{◌≡◌, true, ◌≤◌, ◌<◌, ◌++◌, length, drop, Ok};
 ghost use Rattle.ground.specs.Refusal.{verdict};
-ghost use Rattle.ground.specs.declared.Verdict.TheVariants.{Pass};
 ghost use Rattle.line.specs.Fit.{line_fits};
 ghost use Rattle.relay.specs.RelayTests.{relay_line_tests, relay_channel_tests};
 ghost use Rattle.sending.specs.Sending.{held_count};
@@ -15,66 +14,51 @@ ghost use Rattle.line.specs.Part.{part_length};
 ghost use Rattle.relay.specs.HandOut.{hand_call_tests, handed_octets, handed_line};
 ghost use Rattle.relay.specs.Take.{take_call_tests, took_line, took_part};
 
-use ground::{Refusal, Verdict};
+use ground::Refusal;
 use line::Line;
 use mode::Modes;
 use store::Way;
 
 // What every call on a line's channels asks first: NOLINE, MODE.
-pub fn relay_verdict(l: Line) -> Verdict
+pub fn relay_verdict(l: Line) -> Result<(), Refusal>
     ensures { result ≡ verdict (relay_line_tests l) }
 {
     if l.opened != Line::OPEN {
-        return Verdict::Refuse(Refusal::NOLINE);
+        return Err(Refusal::NOLINE);
     }
-    if l.modes.local == Modes::MODEM {
-        Verdict::Pass
-    } else {
-        Verdict::Refuse(Refusal::MODE)
+    if l.modes.local != Modes::MODEM {
+        return Err(Refusal::MODE);
     }
+    Ok(())
 }
 
 // And what a call on a reliable channel asks: NOLINE, MODE, CHANNEL.
-pub fn channel_verdict(l: Line, channel: u8) -> Verdict
+pub fn channel_verdict(l: Line, channel: u8) -> Result<(), Refusal>
     ensures { result ≡ verdict (relay_channel_tests l channel) }
 {
-    let earlier = relay_verdict(l);
-    match earlier {
-        Verdict::Refuse(r) => Verdict::Refuse(r),
-        Verdict::Pass => {
-            if (channel == 1) | (channel == 2) {
-                Verdict::Pass
-            } else {
-                Verdict::Refuse(Refusal::CHANNEL)
-            }
-        }
+    relay_verdict(l)?;
+    if !((channel == 1) | (channel == 2)) {
+        return Err(Refusal::CHANNEL);
     }
+    Ok(())
 }
 
 // May a message of n octets be taken? NOLINE, MODE, CHANNEL, SIZE, SPENT, FULL.
-pub fn may_take(l: Line, channel: u8, n: usize) -> Verdict
+pub fn may_take(l: Line, channel: u8, n: usize) -> Result<(), Refusal>
     requires { line_fits l ≡ true }
     ensures { result ≡ verdict (take_call_tests l channel n) }
 {
-    let earlier = channel_verdict(l, channel);
-    match earlier {
-        Verdict::Refuse(r) => Verdict::Refuse(r),
-        Verdict::Pass => {
-            let largest = l.send_largest() as usize;
-            if (0 < n) & (n <= largest) {
-                let side = l.sending(channel);
-                let window = l.send_window(channel);
-                side.may_take(window)
-            } else {
-                Verdict::Refuse(Refusal::SIZE)
-            }
-        }
+    channel_verdict(l, channel)?;
+    let largest = l.send_largest() as usize;
+    if !((0 < n) & (n <= largest)) {
+        return Err(Refusal::SIZE);
     }
+    l.sending(channel).may_take(l.send_window(channel))
 }
 
 // Takes a message: its octets go into the slot of its place, and the line has one message more.
 pub fn take(l: Line, part: &mut [u8], channel: u8, message: &[u8]) -> Line
-    requires { (line_fits l ≡ true) × (part_length l ≤ length part.old) × (verdict (take_call_tests l channel (length message.now)) ≡ Pass) }
+    requires { (line_fits l ≡ true) × (part_length l ≤ length part.old) × (verdict (take_call_tests l channel (length message.now)) ≡ Ok tt) }
     ensures { (result ≡ took_line l channel (length message.now)) × (part.new ≡ took_part l channel message.now part.old) }
 {
     let side = l.sending(channel);
@@ -87,33 +71,22 @@ pub fn take(l: Line, part: &mut [u8], channel: u8, message: &[u8]) -> Line
 }
 
 // May message R be handed out into `space` octets? NOLINE, MODE, CHANNEL, SPENT, NOTHING, ROOM.
-pub fn may_hand_out(l: Line, channel: u8, space: usize) -> Verdict
+pub fn may_hand_out(l: Line, channel: u8, space: usize) -> Result<(), Refusal>
     requires { line_fits l ≡ true }
     ensures { result ≡ verdict (hand_call_tests l channel space) }
 {
-    let earlier = channel_verdict(l, channel);
-    match earlier {
-        Verdict::Refuse(r) => Verdict::Refuse(r),
-        Verdict::Pass => {
-            let side = l.receiving(channel);
-            let second = side.may_hand_out();
-            match second {
-                Verdict::Refuse(r) => Verdict::Refuse(r),
-                Verdict::Pass => {
-                    if (side.next_size() as usize) <= space {
-                        Verdict::Pass
-                    } else {
-                        Verdict::Refuse(Refusal::ROOM)
-                    }
-                }
-            }
-        }
+    channel_verdict(l, channel)?;
+    let side = l.receiving(channel);
+    side.may_hand_out()?;
+    if space < side.next_size() as usize {
+        return Err(Refusal::ROOM);
     }
+    Ok(())
 }
 
 // Hands out message R: its octets go to the front of the output, and R moves on.
 pub fn hand_out(l: Line, part: &[u8], channel: u8, out: &mut [u8]) -> Line
-    requires { (line_fits l ≡ true) × (part_length l ≤ length part.now) × (verdict (hand_call_tests l channel (length out.old)) ≡ Pass) }
+    requires { (line_fits l ≡ true) × (part_length l ≤ length part.now) × (verdict (hand_call_tests l channel (length out.old)) ≡ Ok tt) }
     ensures { (result ≡ handed_line l channel) × (out.new ≡ handed_octets l channel part.now ++ drop (next_size (receiving_of l channel)) out.old) }
 {
     let side = l.receiving(channel);

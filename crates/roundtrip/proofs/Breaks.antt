@@ -6,30 +6,29 @@ use Prim.Native.Nat.{ℕ, ◌≤◌}
 use native.Mathlib.Omega.{arith}
 use lib.ListN.{length}
 use borrow.Author.Tests.{eqb-true, le-leb}
+use Rattle.std.specs.Prelude.{Ok, Err}
 use Rattle.ground.specs.Refusal.{verdict}
-use Rattle.ground.specs.declared.Verdict.TheVariants.{Pass}
 use Rattle.ground.proofs.Verdicts.{passed, passes}
 use Rattle.ground.proofs.Settled.{settles_took}
 use Rattle.field.proofs.Packs.{reads_whole}
 use Rattle.breaks.specs.Break.{layout, break_at, break_fits, break_octets, break_read, read_tests, write_tests}
 use Rattle.breaks.specs.declared.Break.{Break}
-use Rattle.breaks.specs.declared.Reading.TheVariants.{Says, Refused}
 use Rattle.breaks.proofs.Writes.{fits_room}
 use Rattle.roundtrip.specs.Again.{Octets}
 use Rattle.roundtrip.proofs.Octets.{packs_whole}
 
 -- a body that may be written reads back
-pub round : (b : Break) (space : ℕ) → verdict (write_tests b space) ≡ Pass → break_read (break_octets b) ≡ Says b
+pub round : (b : Break) (space : ℕ) → verdict (write_tests b space) ≡ Ok tt → break_read (break_octets b) ≡ Ok b
 unfolding break_at break_octets
 round b space ok =
     let t = passed (write_tests b space) ok in
     let r = reads_whole 2 (layout b) (fits_room b t.0) refl in
     let s : List ℕ = break_octets b in
     let e : break_at s ≡ b = λ i. record { source = r.0 i; kind = r.1.0 i; lasts = r.1.1.0 i } in
-    sym (settles_took (verdict (read_tests s)) Refused (Says (break_at s)) refl (passes (read_tests s) (refl, (ap break_fits e ∙ t.0, tt))) (ap Says (sym e)))
+    sym (settles_took (verdict (read_tests s)) Err (Ok (break_at s)) refl (passes (read_tests s) (refl, (ap break_fits e ∙ t.0, tt))) (ap Ok (sym e)))
 
 -- two bodies that are written alike are one
-pub written_once : (b d : Break) (m n : ℕ) → verdict (write_tests b m) ≡ Pass → verdict (write_tests d n) ≡ Pass → break_octets b ≡ break_octets d → b ≡ d
+pub written_once : (b d : Break) (m n : ℕ) → verdict (write_tests b m) ≡ Ok tt → verdict (write_tests d n) ≡ Ok tt → break_octets b ≡ break_octets d → b ≡ d
 written_once b d m n p q e =
     let x = round b m p in
     let y = round d n q in
@@ -37,8 +36,8 @@ written_once b d m n p q e =
     cc
 
 -- a body that is read may be written, and is written as it was read
-pub octets_round : (s : List ℕ) → Octets s → verdict (read_tests s) ≡ Pass → (space : ℕ) → length s ≤ space
-    → (verdict (write_tests (break_at s) space) ≡ Pass) × (break_octets (break_at s) ≡ s)
+pub octets_round : (s : List ℕ) → Octets s → verdict (read_tests s) ≡ Ok tt → (space : ℕ) → length s ≤ space
+    → (verdict (write_tests (break_at s) space) ≡ Ok tt) × (break_octets (break_at s) ≡ s)
 unfolding break_at break_octets
 octets_round s o ok space h =
     let t = passed (read_tests s) ok in

@@ -8,10 +8,10 @@ use native.Mathlib.Omega.{arith}
 use lib.Dec.{ltb, leb, eqb}
 use lib.ListN.{length}
 use borrow.Author.Tests.{ltb-true, leb-true, eqb-true, lt-ltb, le-leb, lt-leb}
+use Rattle.std.specs.Prelude.{Ok}
 use Rattle.ground.specs.Pick.{pick, all_hold, bit}
 use Rattle.ground.specs.Refusal.{must, verdict}
 use Rattle.ground.specs.declared.Refusal.TheVariants.{RANGE, ROOM}
-use Rattle.ground.specs.declared.Verdict.TheVariants.{Pass}
 use Rattle.ground.proofs.Verdicts.{Holds, passed}
 use Rattle.field.specs.Bits.{bits_at}
 use Rattle.field.specs.Layout.{packed, Reads}
@@ -41,7 +41,7 @@ two_left true false = refl
 two_left false true = refl
 two_left false false = refl
 
-module _ (s : List ℕ) (ok : verdict (read_tests s) ≡ Pass) where
+module _ (s : List ℕ) (ok : verdict (read_tests s) ≡ Ok tt) where
   abbrev c : Connect
   c = connect_at s
 

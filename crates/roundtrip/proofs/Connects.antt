@@ -8,9 +8,9 @@ use native.Mathlib.Omega.{arith}
 use lib.Dec.{lit≤, ltb, leb, eqb}
 use lib.ListN.{length}
 use borrow.Author.Tests.{ltb-true, le-leb, lt-ltb, eq-eqb, eqb-true}
+use Rattle.std.specs.Prelude.{Ok, Err}
 use Rattle.ground.specs.Pick.{pick, bit}
 use Rattle.ground.specs.Refusal.{verdict}
-use Rattle.ground.specs.declared.Verdict.TheVariants.{Pass}
 use Rattle.ground.proofs.Picks.{each, both_true}
 use Rattle.ground.proofs.Verdicts.{passed, passes}
 use Rattle.ground.proofs.Settled.{settles_took}
@@ -22,7 +22,6 @@ use Rattle.connect.specs.Read.{compression_at, way_at, connect_at, read_tests, c
 use Rattle.connect.specs.Write.{base_fields, bis_fields, history_fields, size_fields, connect_octets, write_tests}
 use Rattle.connect.specs.declared.Way.{Way}
 use Rattle.connect.specs.declared.Connect.{Connect}
-use Rattle.connect.specs.declared.Reading.TheVariants.{Says, Refused}
 use Rattle.connect.proofs.Writes.{Small, sizes_small, base_room, body_length, size_least}
 
 bit_back : (b : Bool) {x : ℕ} → x ≡ bit b → eqb x 1 ≡ b
@@ -109,8 +108,8 @@ module _ (c : Connect) (f : numbers_fit c ≡ true) (g : sizes_fit c ≡ true) w
       }
 
 -- a body that may be written reads back
-module _ (c : Connect) (space : ℕ) (ok : verdict (write_tests c space) ≡ Pass) where
-  pub round : connect_read (connect_octets c) ≡ Says c
+module _ (c : Connect) (space : ℕ) (ok : verdict (write_tests c space) ≡ Ok tt) where
+  pub round : connect_read (connect_octets c) ≡ Ok c
   unfolding numbers_fit
   round =
       let s : List ℕ = connect_octets c in
@@ -123,11 +122,11 @@ module _ (c : Connect) (space : ℕ) (ok : verdict (write_tests c space) ≡ Pas
       let l : length s ≡ size_of (compression_at s) = body_length c ∙ ap size_of (sym p) in
       let q : compression_at s < 4 = omega arith in
       let eight : 8 ≤ length s = omega (arith, body_length c, size_least c.compression) in
-      sym (settles_took (verdict (read_tests s)) Refused (Says (connect_at s)) refl
-      (passes (read_tests s) (le-leb _ _ eight, (lt-ltb _ _ q, (eq-eqb _ _ l, (ap sizes_fit e ∙ b.1, tt))))) (ap Says (sym e)))
+      sym (settles_took (verdict (read_tests s)) Err (Ok (connect_at s)) refl
+      (passes (read_tests s) (le-leb _ _ eight, (lt-ltb _ _ q, (eq-eqb _ _ l, (ap sizes_fit e ∙ b.1, tt))))) (ap Ok (sym e)))
 
 -- two bodies that are written alike are one
-pub written_once : (c d : Connect) (m n : ℕ) → verdict (write_tests c m) ≡ Pass → verdict (write_tests d n) ≡ Pass → connect_octets c ≡ connect_octets d → c ≡ d
+pub written_once : (c d : Connect) (m n : ℕ) → verdict (write_tests c m) ≡ Ok tt → verdict (write_tests d n) ≡ Ok tt → connect_octets c ≡ connect_octets d → c ≡ d
 written_once c d m n p q e =
     let a = round c m p in
     let b = round d n q in

@@ -8,9 +8,9 @@ use native.Mathlib.Omega.{arith}
 use lib.Dec.{ltb, leb, eqb}
 use lib.ListN.{length, drop, length-drop}
 use borrow.Author.Tests.{leb-true, eqb-true, lt-ltb, le-leb}
+use Rattle.std.specs.Prelude.{Ok}
 use Rattle.ground.specs.Pick.{pick, all_hold}
 use Rattle.ground.specs.Refusal.{verdict}
-use Rattle.ground.specs.declared.Verdict.TheVariants.{Pass}
 use Rattle.ground.proofs.Picks.{together, pick_by}
 use Rattle.ground.proofs.Verdicts.{passed, passes}
 use Rattle.field.specs.Bits.{bits_at}
@@ -64,7 +64,7 @@ module _ (s : List ℕ) where
       )
 
   -- a packet whose list is there and whose channels are served may be written again
-  pub written_again : verdict (list_tests s) ≡ Pass → (largest space : ℕ) → payload_fits s largest ≡ true → length s ≤ space → verdict (write_tests (head_at s) (acks_at s) (payload_of s) largest space) ≡ Pass
+  pub written_again : verdict (list_tests s) ≡ Ok tt → (largest space : ℕ) → payload_fits s largest ≡ true → length s ≤ space → verdict (write_tests (head_at s) (acks_at s) (payload_of s) largest space) ≡ Ok tt
   unfolding head_at acks_at payload_of
   written_again listed largest space fits h =
       let there : header_length s ≤ length s = leb-true _ _ (passed (list_tests s) listed).0 in

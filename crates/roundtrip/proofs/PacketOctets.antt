@@ -9,8 +9,8 @@ use lib.Dec.{leb, eqb}
 use lib.ListN.{length, get_or, drop, take-append-drop}
 use lib.Seq.{get_or-take}
 use borrow.Author.Tests.{leb-true, eqb-true, lt-ltb}
+use Rattle.std.specs.Prelude.{Ok}
 use Rattle.ground.specs.Refusal.{verdict}
-use Rattle.ground.specs.declared.Verdict.TheVariants.{Pass}
 use Rattle.ground.proofs.Picks.{each, pick_by}
 use Rattle.ground.proofs.Verdicts.{passed}
 use Rattle.field.specs.Bits.{bits_at}
@@ -42,7 +42,7 @@ record Shows (s t : List ℕ) : Type 0 where
   base : bits_at t 34 14 ≡ base_at s
   behind : (x y : ℕ) → 48 ≤ x → x + y ≤ 8 * length s → bits_at t x y ≡ bits_at s x y
 
-module _ (s : List ℕ) (o : Octets s) (plain : verdict (head_tests s) ≡ Pass) (listed : verdict (list_tests s) ≡ Pass) where
+module _ (s : List ℕ) (o : Octets s) (plain : verdict (head_tests s) ≡ Ok tt) (listed : verdict (list_tests s) ≡ Ok tt) where
   six : 6 ≤ length s
   six = leb-true _ _ (passed (head_tests s) plain).0
 

@@ -9,9 +9,9 @@ use lib.Dec.{ltb, leb, eqb}
 use lib.ListN.{length, get_or, take, length-append}
 use lib.Seq.{get_or-take, drop_at}
 use borrow.Author.Tests.{ltb-true, leb-true, eqb-true, eqb-false, lt-ltb, le-ltb, le-leb, eq-eqb, ne_eqb}
+use Rattle.std.specs.Prelude.{Ok, Err}
 use Rattle.ground.specs.Pick.{all_hold}
 use Rattle.ground.specs.Refusal.{verdict}
-use Rattle.ground.specs.declared.Verdict.TheVariants.{Pass}
 use Rattle.ground.proofs.Picks.{each, both_true, pick_by, pick_lt, together}
 use Rattle.ground.proofs.Verdicts.{Holds, passed, passes}
 use Rattle.ground.proofs.Settled.{settles_took}
@@ -24,8 +24,6 @@ use Rattle.packet.specs.Read.{head_tests, list_tests, head_read, acks_read, head
 use Rattle.packet.specs.Write.{fixed_fields, ack_fields, layout, packet_octets, fields_fit, numbers_placed, write_tests}
 use Rattle.packet.specs.declared.Head.{Head}
 use Rattle.packet.specs.declared.Acks.{Acks}
-use Rattle.packet.specs.declared.HeadReading.TheVariants as head
-use Rattle.packet.specs.declared.AcksReading.TheVariants as acks
 use Rattle.packet.proofs.Writes.{wide_take, list_words, list_room, list_wide, list_length, header_length_lem, fits_room, fits_count}
 
 -- acknowledgements that are served are words of 16 bits
@@ -46,7 +44,7 @@ served_wide n a b c e =
     go (suc (suc zero)) f g h = (f (omega arith), (g (omega arith), tt))
     go (suc (suc (suc m))) f g h = (f (omega arith), (g (omega arith), (h (omega arith), wide_take m [] tt)))
 
-module _ (h : Head) (a : Acks) (payload : List ℕ) (largest space : ℕ) (ok : verdict (write_tests h a payload largest space) ≡ Pass) where
+module _ (h : Head) (a : Acks) (payload : List ℕ) (largest space : ℕ) (ok : verdict (write_tests h a payload largest space) ≡ Ok tt) where
   tests : Holds (write_tests h a payload largest space)
   tests = passed (write_tests h a payload largest space) ok
 
@@ -151,21 +149,21 @@ module _ (h : Head) (a : Acks) (payload : List ℕ) (largest space : ℕ) (ok : 
   head_back = λ i. record { identifier = fixed.1.0 i; kind = fixed.1.1.1.0 i; channel = own i; number = number_back i; base = base_back i }
 
   -- the head reads back
-  pub head_round : head_read (packet_octets h a payload) ≡ head.Says h
+  pub head_round : head_read (packet_octets h a payload) ≡ Ok h
   unfolding s
   head_round =
       let l : 6 ≤ length s = omega (arith, long) in
       let f = together (eqb (bits_at s 0 1) 0 ∷ eqb (bits_at s 8 1) 0 ∷ []) (eq-eqb _ _ fixed.0, (eq-eqb _ _ fixed.1.1.0, tt)) in
-      sym (settles_took (verdict (head_tests s)) head.Refused (head.Says (head_at s)) refl (passes (head_tests s) (le-leb _ _ l, (f, tt))) (ap head.Says (sym head_back)))
+      sym (settles_took (verdict (head_tests s)) Err (Ok (head_at s)) refl (passes (head_tests s) (le-leb _ _ l, (f, tt))) (ap Ok (sym head_back)))
 
   -- the acknowledgements read back
-  pub acks_round : acks_read (packet_octets h a payload) ≡ acks.Says a
+  pub acks_round : acks_read (packet_octets h a payload) ≡ Ok a
   unfolding s
   acks_round =
       let l : header_length s ≤ length s = omega (arith, long, counted) in
       let c : channel_at s < 3 = omega (arith, own, channel) in
       let f = together (ltb (channel_at s) 3 ∷ acks_served (acks_at s) ∷ []) (lt-ltb _ _ c, (ap acks_served acks_back ∙ all_served, tt)) in
-      sym (settles_took (verdict (list_tests s)) acks.Refused (acks.Says (acks_at s)) refl (passes (list_tests s) (le-leb _ _ l, (f, tt))) (ap acks.Says (sym acks_back)))
+      sym (settles_took (verdict (list_tests s)) Err (Ok (acks_at s)) refl (passes (list_tests s) (le-leb _ _ l, (f, tt))) (ap Ok (sym acks_back)))
 
   -- the payload reads back, and is not too large
   pub payload_round : payload_of (packet_octets h a payload) ≡ payload
@@ -179,9 +177,9 @@ module _ (h : Head) (a : Acks) (payload : List ℕ) (largest space : ℕ) (ok : 
       (λ i. size_fits (own i) (n i) largest) ∙ tests.1.1.0
 
 -- two packets that are written alike are one
-pub written_once : (h k : Head) (a b : Acks) (p q : List ℕ) (x y m n : ℕ) → verdict (write_tests h a p x m) ≡ Pass → verdict (write_tests k b q y n) ≡ Pass
+pub written_once : (h k : Head) (a b : Acks) (p q : List ℕ) (x y m n : ℕ) → verdict (write_tests h a p x m) ≡ Ok tt → verdict (write_tests k b q y n) ≡ Ok tt
     → packet_octets h a p ≡ packet_octets k b q → (h ≡ k) × (a ≡ b) × (p ≡ q)
 written_once h k a b p q x y m n u v e =
-    let d : head.Says h ≡ head.Says k = sym (head_round h a p x m u) ∙ ap head_read e ∙ head_round k b q y n v in
-    let f : acks.Says a ≡ acks.Says b = sym (acks_round h a p x m u) ∙ ap acks_read e ∙ acks_round k b q y n v in
+    let d : Ok h ≡ Ok k = sym (head_round h a p x m u) ∙ ap head_read e ∙ head_round k b q y n v in
+    let f : Ok a ≡ Ok b = sym (acks_round h a p x m u) ∙ ap acks_read e ∙ acks_round k b q y n v in
     (cc, cc, sym (payload_round h a p x m u) ∙ ap payload_of e ∙ payload_round k b q y n v)

@@ -1,6 +1,6 @@
 -- The sending side of a channel: S is `taken`, h is `base`, message h + i is held where offset i is in `unacked`.
 -- Assumes nothing.
-use Rattle.std.specs.Prelude.{ℕ, ◌+◌, ◌-◌, ◌/◌, ◌^◌, ◌≤◌, ◌<◌, Bool, ◌&&◌, List, [], ◌∷◌, ltb, leb, get_or, set, replicate}
+use Rattle.std.specs.Prelude.{ℕ, ◌+◌, ◌-◌, ◌/◌, ◌^◌, ◌≤◌, ◌<◌, Bool, ◌&&◌, List, [], ◌∷◌, ltb, leb, get_or, set, replicate, Option, Some, None}
 use Rattle.ground.specs.Pick.{pick, all_hold}
 use Rattle.ground.specs.Refusal.{Test, must}
 use Rattle.ground.specs.declared.Refusal.TheVariants.{FULL, SPENT}
@@ -8,12 +8,9 @@ use Rattle.channel.specs.Channel.{cap}
 use Rattle.channel.specs.Distance.{dist, place_of}
 use Rattle.places.specs.Places.{mask_of, set_of, widest, bit_of, with_bit, without_bit, within, count_of, rank_of}
 use Rattle.channel.specs.Sizes.{sizes_fit}
-use Rattle.places.specs.declared.Place.{Place}
-use Rattle.places.specs.declared.Place.TheVariants.{At, Missing}
 use Rattle.sending.specs.declared.Sending.{Sending}
 use Rattle.sending.specs.declared.Acknowledged.{Acknowledged}
-use Rattle.sending.specs.declared.Ranked.{Ranked}
-use Rattle.sending.specs.declared.Ranked.TheVariants.{Is, Nothing}
+use Rattle.sending.specs.declared.Held.{Held}
 
 -- S and h are 0 and nothing is held (RULES 9.12); message 0 has place 0 (RULES 6.5)
 abbrev pub fresh_sending : Sending
@@ -85,12 +82,12 @@ abbrev pub held_count : Sending → ℕ
 held_count s = count_of (mask_of s.unacked)
 
 -- message h + i with its place and size
-abbrev pub held_at : ℕ → Sending → Place → Ranked
-held_at w s (At i) = Is (record { number = s.base + i; place = place_of s.origin i w; size = get_or s.sizes (place_of s.origin i w) 0 })
-held_at w s Missing = Nothing
+abbrev pub held_at : ℕ → Sending → Option ℕ → Option Held
+held_at w s (Some i) = Some (record { number = s.base + i; place = place_of s.origin i w; size = get_or s.sizes (place_of s.origin i w) 0 })
+held_at w s None = None
 
 -- "by its rank among the unacknowledged ones of its channel, oldest 0" (RULES 5.4)
-unfoldable pub held_of : ℕ → Sending → ℕ → Ranked
+unfoldable pub held_of : ℕ → Sending → ℕ → Option Held
 held_of w s rank = held_at w s (rank_of (mask_of s.unacked) rank)
 
 -- What BOOK asks: S is at most 16,777,215 (RULES 15.8); not "h over S" (RULES 15.10), "or S - h over the window" (RULES 15.11); the place

@@ -10,8 +10,8 @@ ghost use Rattle.places.specs.Places.{widest};
 ghost use Rattle.sending.specs.Sending.{SendingOk, fresh_sending, next_place, took_one, heard_base, acknowledged_by, emptied_sending, held_count, held_of, take_tests, sending_fits};
 
 use channel::{Channel, distance, place, sizes_fit};
-use ground::{Refusal, Verdict};
-use places::{Place, Places};
+use ground::Refusal;
+use places::Places;
 
 #[repr(C)]
 #[derive(Clone, Copy)]
@@ -43,13 +43,6 @@ pub struct Held {
     pub size: u16,
 }
 
-// What a rank finds: the held message, or that none has it.
-#[derive(Clone, Copy)]
-pub enum Ranked {
-    Is(Held),
-    Nothing,
-}
-
 impl Sending {
     // A side that has taken nothing.
     pub fn fresh() -> Sending
@@ -67,17 +60,17 @@ impl Sending {
     }
 
     // May a message be taken? SPENT, then FULL.
-    pub fn may_take(self, window: u32) -> Verdict
+    pub fn may_take(self, window: u32) -> Result<(), Refusal>
         requires { self.base ≤ self.taken }
         ensures { result ≡ verdict (take_tests window self) }
     {
         if Channel::CAP <= self.taken {
-            return Verdict::Refuse(Refusal::SPENT);
+            return Err(Refusal::SPENT);
         }
         if window <= self.taken - self.base {
-            return Verdict::Refuse(Refusal::FULL);
+            return Err(Refusal::FULL);
         }
-        Verdict::Pass
+        Ok(())
     }
 
     // The place where the next message taken lies.
@@ -157,25 +150,18 @@ impl Sending {
         self.unacked.count()
     }
 
-    // The held message of a rank, the oldest being 0.
-    pub fn ranked(self, window: u32, rank: u32) -> Ranked
+    // The held message of a rank, the oldest being 0, if one has it.
+    pub fn ranked(self, window: u32, rank: u32) -> Option<Held>
         requires { SendingOk window self }
         ensures { result ≡ held_of window self rank }
     {
-        let found = self.unacked.rank(rank);
-        match found {
-            Place::At(i) => {
-                let at = place(self.origin, i, window);
-                let p = at as usize;
-                let size = self.sizes[p];
-                Ranked::Is(Held {
-                    number: self.base + i,
-                    place: at,
-                    size,
-                })
-            }
-            Place::Missing => Ranked::Nothing,
-        }
+        let i = self.unacked.rank(rank)?;
+        let at = place(self.origin, i, window);
+        Some(Held {
+            number: self.base + i,
+            place: at,
+            size: self.sizes[at as usize],
+        })
     }
 
     // What BOOK asks of a sending side.

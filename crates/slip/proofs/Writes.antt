@@ -11,11 +11,9 @@ use lib.Seq.{sets}
 use lib.Pow.{shl_exact}
 use lib.Bits.{bit_and, bit_or, and_mask}
 use borrow.Author.Tests.{ltb-true, leb-true}
-use Rattle.ground.specs.Refusal.{verdict}
+use Rattle.std.specs.Prelude.{Ok}
+use Rattle.ground.specs.Refusal.{Verdict, verdict}
 use Rattle.ground.specs.Answer.{Writes}
-use Rattle.ground.specs.declared.Verdict.{Verdict}
-use Rattle.ground.specs.declared.Verdict.TheVariants.{Pass}
-use Rattle.ground.specs.declared.WriteAnswer.TheVariants.{Wrote}
 use Rattle.ground.proofs.Picks.{each}
 use Rattle.ground.proofs.Verdicts.{Holds, passed}
 use Rattle.field.specs.Layout.{Field, of, octets, join, InWidth}
@@ -90,13 +88,13 @@ module _ (v : Slip) where
         ∙ (λ i. sets (sets (sets l 0 (octets 4 (one_is i))) 4 (octets 4 (join 0 two))) 8 (octets 4 (join 0 three))) ∙ ap (sets l 0) (sym slip_longs)
 
 -- all tests before writing pass: then the numbers fit, and what is stored is the slip
-module _ (v : Slip) (l : List ℕ) {w : Verdict} (e : w ≡ verdict (write_tests v (length l))) (k : w ≡ Pass) where
+module _ (v : Slip) (l : List ℕ) {w : Verdict} (e : w ≡ verdict (write_tests v (length l))) (k : w ≡ Ok tt) where
   tests : Holds (write_tests v (length l))
   tests = passed (write_tests v (length l)) (sym e ∙ k)
 
   pub write_fits : slip_fits v ≡ true
   write_fits = tests.0
 
-  pub write_done : {l₁ : List ℕ} → l₁ ≡ sets l 0 (slip_octets v) → Writes (write_tests v (length l)) (slip_octets v) l l₁ (Wrote 12)
+  pub write_done : {l₁ : List ℕ} → l₁ ≡ sets l 0 (slip_octets v) → Writes (write_tests v (length l)) (slip_octets v) l l₁ (Ok 12)
   unfolding slip_octets
   write_done q = stored_writes (write_tests v (length l)) (slip_octets v) l e k (leb-true _ _ tests.1.0) refl q

@@ -1,15 +1,14 @@
 -- The slip of a closed line, form 1: what its octets say, and the octets of one.
 -- Assumes nothing.
-use Rattle.std.specs.Prelude.{ℕ, Bool, List, [], ◌∷◌, length, ltb, leb, eqb}
+use Rattle.std.specs.Prelude.{ℕ, Bool, List, [], ◌∷◌, length, ltb, leb, eqb, Result, Ok, Err}
 use Rattle.ground.specs.Pick.{all_hold}
-use Rattle.ground.specs.Refusal.{Test, must, verdict, settle}
-use Rattle.ground.specs.Answer.{Answer, accepted, refused}
+use Rattle.ground.specs.Refusal.{Test, must}
+use Rattle.ground.specs.Answer.{Answer, accepted, refused, answered}
 use Rattle.ground.specs.declared.Refusal.TheVariants.{LENGTH, FORM, RANGE, ROOM}
 use Rattle.field.specs.Bits.{bits_at}
 use Rattle.field.specs.Layout.{Field, of, packed}
 use Rattle.slip.specs.declared.Slip.{Slip}
-use Rattle.slip.specs.declared.Reading.{Reading}
-use Rattle.slip.specs.declared.Reading.TheVariants.{Says, Refused}
+use Rattle.ground.specs.declared.Refusal.{Refusal}
 
 -- "form 1 (4 bits), identifier (7), payload type (7), messages handed out on channel 1 (24) and channel 2 (24), reason (8 ..), 22 zero
 -- bits" (RULES 8.1)
@@ -47,9 +46,9 @@ abbrev pub write_tests : Slip → ℕ → List Test
 write_tests v space = must (slip_fits v) RANGE ∷ must (leb slip_length space) ROOM ∷ []
 
 -- what each case of a reading stands for: the slip's values in the order of its fields (RULES 8.4), or the refusal's number (RULES 17.3)
-abbrev pub answer_of : Reading → Answer
-answer_of (Says v) = accepted (v.identifier ∷ v.kind ∷ v.count1 ∷ v.count2 ∷ v.reason ∷ [])
-answer_of (Refused r) = refused r
+abbrev pub answer_of : Result Slip Refusal → Answer
+answer_of (Ok v) = accepted (v.identifier ∷ v.kind ∷ v.count1 ∷ v.count2 ∷ v.reason ∷ [])
+answer_of (Err r) = refused r
 
-abbrev pub slip_read : List ℕ → Reading
-slip_read s = settle (verdict (read_tests s)) Refused (Says (slip_at s))
+abbrev pub slip_read : List ℕ → Result Slip Refusal
+slip_read s = answered (read_tests s) (slip_at s)

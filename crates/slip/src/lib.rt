@@ -7,7 +7,7 @@ ghost use Rattle.ground.specs.Refusal.{verdict};
 ghost use Rattle.ground.specs.Answer.{Gives, Writes};
 ghost use Rattle.slip.specs.Slip.{slip_at, slip_fits, form_fits, slip_octets, answer_of, read_tests, write_tests};
 
-use ground::{Refusal, Verdict, WriteAnswer};
+use ground::Refusal;
 
 #[derive(Clone, Copy)]
 pub struct Slip {
@@ -34,13 +34,6 @@ impl Slip {
     pub const ENDED: u8 = 1;
 }
 
-// What a slip says, or why it says nothing.
-#[derive(Clone, Copy)]
-pub enum Reading {
-    Says(Slip),
-    Refused(Refusal),
-}
-
 fn slip_at(s: &[u8]) -> Slip
     ensures { result ≡ slip_at s.now }
 {
@@ -62,57 +55,53 @@ fn form_fits(s: &[u8]) -> bool
 {
     let a = field::long_at(s, 0);
     let c = field::long_at(s, 8);
-    (a >> 28 == 1) & (c & 0x3fffff == 0)
+    a >> 28 == 1 && c & 0x3fffff == 0
 }
 
+#[tactic(auto, unfolding(crate::specs::Slip::slip_fits))]
 fn slip_fits(v: Slip) -> bool
     ensures { result ≡ slip_fits v }
 {
-    (v.identifier < 128)
-        & (96 <= v.kind)
-        & (v.kind < 128)
-        & (v.count1 < 16777216)
-        & (v.count2 < 16777216)
-        & (v.reason <= 1)
+    v.identifier < 128
+        && (96..128).contains(&v.kind)
+        && v.count1 < 16777216
+        && v.count2 < 16777216
+        && v.reason <= 1
 }
 
-fn read_verdict(s: &[u8]) -> Verdict
+fn read_verdict(s: &[u8]) -> Result<(), Refusal>
     ensures { result ≡ verdict (read_tests s.now) }
 {
     if s.len() != Slip::LENGTH {
-        return Verdict::Refuse(Refusal::LENGTH);
+        return Err(Refusal::LENGTH);
     }
     if !form_fits(s) {
-        return Verdict::Refuse(Refusal::FORM);
+        return Err(Refusal::FORM);
     }
-    if slip_fits(slip_at(s)) {
-        Verdict::Pass
-    } else {
-        Verdict::Refuse(Refusal::RANGE)
+    if !slip_fits(slip_at(s)) {
+        return Err(Refusal::RANGE);
     }
+    Ok(())
 }
 
 // A slip read: LENGTH, FORM, RANGE.
-pub fn read(s: &[u8]) -> Reading
-    ensures { Gives answer_of (read_tests s.now) Reading.Refused (Reading.Says (slip_at s.now)) result }
+pub fn read(s: &[u8]) -> Result<Slip, Refusal>
+    ensures { Gives answer_of (read_tests s.now) (slip_at s.now) result }
 {
-    match read_verdict(s) {
-        Verdict::Pass => Reading::Says(slip_at(s)),
-        Verdict::Refuse(r) => Reading::Refused(r),
-    }
+    read_verdict(s)?;
+    Ok(slip_at(s))
 }
 
-fn write_verdict(v: Slip, space: usize) -> Verdict
+fn write_verdict(v: Slip, space: usize) -> Result<(), Refusal>
     ensures { result ≡ verdict (write_tests v space) }
 {
     if !slip_fits(v) {
-        return Verdict::Refuse(Refusal::RANGE);
+        return Err(Refusal::RANGE);
     }
-    if Slip::LENGTH <= space {
-        Verdict::Pass
-    } else {
-        Verdict::Refuse(Refusal::ROOM)
+    if space < Slip::LENGTH {
+        return Err(Refusal::ROOM);
     }
+    Ok(())
 }
 
 // Stores the twelve octets, as three numbers of 32 bits.
@@ -133,14 +122,10 @@ fn put(out: &mut [u8], v: Slip)
 }
 
 // A slip written: RANGE, ROOM.
-pub fn write(out: &mut [u8], v: Slip) -> WriteAnswer
+pub fn write(out: &mut [u8], v: Slip) -> Result<usize, Refusal>
     ensures { Writes (write_tests v (length out.old)) (slip_octets v) out.old out.new result }
 {
-    match write_verdict(v, out.len()) {
-        Verdict::Refuse(r) => WriteAnswer::Refused(r),
-        Verdict::Pass => {
-            put(out, v);
-            WriteAnswer::Wrote(Slip::LENGTH)
-        }
-    }
+    write_verdict(v, out.len())?;
+    put(out, v);
+    Ok(Slip::LENGTH)
 }

@@ -46,16 +46,13 @@ impl Region {
     }
 
     // Puts a message into the slot of a place, from the slot's first octet on. All other octets stay.
+    #[tactic(auto, using(crate::proofs::Octets::written, std::proofs::lemmas::Grind::common_steps))]
     pub fn put(self, part: &mut [u8], place: u32, message: &[u8])
         requires { SlotIn self place (length part.old) × (length message.now ≤ self.size) }
         ensures { part.new ≡ sets part.old (slot_at self place) message.now }
     {
         let at = self.slot(place);
-        let mut i = 0;
-        while i < message.len() {
-            part[at + i] = message[i];
-            i += 1;
-        }
+        part[at..at + message.len()].copy_from_slice(message);
     }
 
     // Copies the first `size` octets in the slot of a place to the front of an output. The output's other octets stay.
@@ -64,10 +61,6 @@ impl Region {
         ensures { out.new ≡ octets_in part.now self place size ++ drop size out.old }
     {
         let from = self.slot(place);
-        let mut i = 0;
-        while i < size {
-            out[i] = part[from + i];
-            i += 1;
-        }
+        out[..size].copy_from_slice(&part[from..from + size]);
     }
 }

@@ -1,7 +1,7 @@
 -- Rows 6 and 7 of document 01's table as calls on a book. Line 0 has identifier 5 and payload type 98 and is in modem relay, and channel 1 stands as the
 -- row says; all else is as in a fresh book. A store of 42,240 octets or more is lent, and an output, whatever they hold.
 -- Assumes nothing.
-use Rattle.std.specs.Prelude.{◌≡◌, Bool, leb, replicate}
+use Rattle.std.specs.Prelude.{◌≡◌, Bool, leb, replicate, Ok, Err}
 use Rattle.std.proofs.Math.Path.{ap}
 use Rattle.std.proofs.Common.{◌∙◌, arith, le-leb}
 use mathlib.Core.List.{List, [], ◌∷◌}
@@ -12,8 +12,6 @@ use Rattle.ground.specs.Pick.{pick}
 use Rattle.ground.specs.Every.{every}
 use Rattle.ground.specs.Answer.{accepted, refused}
 use Rattle.ground.specs.declared.Refusal.TheVariants.{FULL, ROOM}
-use Rattle.ground.specs.declared.Verdict.{Verdict}
-use Rattle.ground.specs.declared.Verdict.TheVariants.{Pass, Refuse}
 use Rattle.field.specs.Bits.{bits_at}
 use Rattle.packet.specs.Acks.{acks_served}
 use Rattle.packet.specs.Read.{head_at, number_at, base_at, acks_at, ack_at, payload_of, size_fits}
@@ -40,6 +38,7 @@ use Rattle.calls.specs.Call as call
 use Rattle.calls.specs.Order.{order, arrive_order, take_order, line_for}
 use Rattle.calls.specs.Result.{CallResult, result_with, result_of, accepted_result, effect}
 use Rattle.calls.proofs.Results.{result_accepted, did_refused}
+use Rattle.ground.specs.Refusal.{Verdict}
 
 -- the book, by the two sides of channel 1
 abbrev relaying : Sending → Receiving → Book
@@ -72,8 +71,8 @@ abbrev taking : ℕ → Call
 taking x = call.taking 0 1 (x ∷ [])
 
 -- where the store is long enough, the other tests decide
-by_rest : (v : Verdict) (store : List ℕ) → store_octets ≤ length store → pick (leb store_octets (length store)) v (Refuse ROOM) ≡ v
-by_rest v store long = ap (λ (t : Bool). pick t v (Refuse ROOM)) (le-leb store_octets (length store) long)
+by_rest : (v : Verdict) (store : List ℕ) → store_octets ≤ length store → pick (leb store_octets (length store)) v (Err ROOM) ≡ v
+by_rest v store long = ap (λ (t : Bool). pick t v (Err ROOM)) (le-leb store_octets (length store) long)
 
 module _ (store out : List ℕ) (long : store_octets ≤ length store) where
   abbrev six : ℕ → CallResult
@@ -81,7 +80,7 @@ module _ (store out : List ℕ) (long : store_octets ≤ length store) where
 
   six_done : (n : ℕ) → six n ≡ accepted_result (call.arrival (numbered n)) book_six store out
   unfolding order arrive_order part_start book_fits lines_fit all_span open_in owner_from line_fits member no_twice all_spans owed_fits modes_fit sending_fits receiving_fits mask_of set_of sizes.sizes_fit every head_at acks_at ack_at acks_served size_fits bits_at
-  six_done n = result_accepted (call.arrival (numbered n)) book_six store out (by_rest Pass store long)
+  six_done n = result_accepted (call.arrival (numbered n)) book_six store out (by_rest (Ok tt) store long)
 
   -- both packets are accepted for line 0
   pub row_6_call_accepted : (n : ℕ) → (six n).answer ≡ accepted (0 ∷ [])
@@ -101,7 +100,7 @@ module _ (store out : List ℕ) (long : store_octets ≤ length store) where
   -- 32 are taken and h is 0: the next is FULL
   pub row_7_call_full : (x : ℕ) → (result_of (taking x) book_seven store out).answer ≡ refused FULL
   unfolding order take_order part_start book_fits lines_fit all_span open_in line_fits member no_twice all_spans owed_fits modes_fit sending_fits receiving_fits mask_of set_of sizes.sizes_fit every
-  row_7_call_full x = ap (λ (d : CallResult). d.answer) (did_refused (taking x) book_seven store out (by_rest (Refuse FULL) store long))
+  row_7_call_full x = ap (λ (d : CallResult). d.answer) (did_refused (taking x) book_seven store out (by_rest (Err FULL) store long))
 
   -- the packet with base 1 arrives
   abbrev heard : CallResult
@@ -109,7 +108,7 @@ module _ (store out : List ℕ) (long : store_octets ≤ length store) where
 
   heard_is : heard ≡ result_with (accepted (0 ∷ [])) (relaying (heard_base 32 taken32 1) fresh_receiving) store out
   unfolding order arrive_order part_start book_fits lines_fit all_span open_in owner_from line_fits member no_twice all_spans owed_fits modes_fit sending_fits receiving_fits mask_of set_of sizes.sizes_fit every head_at acks_at ack_at acks_served size_fits bits_at accepted_result effect line_for number_at base_at payload_of arrived_line arrived_store news_line heard_line acked_all heard_base
-  heard_is = result_accepted (call.arrival news) book_seven store out (by_rest Pass store long)
+  heard_is = result_accepted (call.arrival news) book_seven store out (by_rest (Ok tt) store long)
 
   -- then a message is taken
   abbrev one : ℕ → CallResult
@@ -122,7 +121,7 @@ module _ (store out : List ℕ) (long : store_octets ≤ length store) where
   unfolding order take_order part_start book_fits lines_fit all_span open_in line_fits member no_twice all_spans owed_fits modes_fit sending_fits receiving_fits mask_of set_of sizes.sizes_fit every accepted_result effect line_for heard_base took_one
   one_is x =
       ap (λ (d : CallResult). result_of (taking x) d.book d.store out) heard_is
-      ∙ result_accepted (taking x) (relaying side fresh_receiving) store out (by_rest Pass store long)
+      ∙ result_accepted (taking x) (relaying side fresh_receiving) store out (by_rest (Ok tt) store long)
 
   -- base 1 is heard, and one is taken: number 32
   pub row_7_call_taken : (x : ℕ) → (heard.answer ≡ accepted (0 ∷ [])) × ((one x).answer ≡ accepted (32 ∷ []))
@@ -135,4 +134,4 @@ module _ (store out : List ℕ) (long : store_octets ≤ length store) where
       let s : List ℕ = sets store 0 (x ∷ []) in
       let l : store_octets ≤ length s = omega (arith, length-sets store 0 (x ∷ [])) in
       ap (λ (d : CallResult). (result_of (taking y) d.book d.store out).answer) (one_is x)
-      ∙ ap (λ (d : CallResult). d.answer) (did_refused (taking y) (relaying (took_one 32 side 1) fresh_receiving) s out (by_rest (Refuse FULL) s l))
+      ∙ ap (λ (d : CallResult). d.answer) (did_refused (taking y) (relaying (took_one 32 side 1) fresh_receiving) s out (by_rest (Err FULL) s l))

@@ -2,13 +2,12 @@
 -- Each holds by computation: the definition, run on the row's numbers, gives the row's answer. Rows 6 and 7, which speak of one side of a channel, stand
 -- here for that side; as calls on a book they stand in Books.
 -- Assumes nothing.
-use Rattle.std.specs.Prelude.{◌≡◌, true, false, List, [], ◌∷◌, ℕ, ◌+◌, ◌-◌, ◌*◌, ◌≤◌, replicate}
+use Rattle.std.specs.Prelude.{◌≡◌, true, false, List, [], ◌∷◌, ℕ, ◌+◌, ◌-◌, ◌*◌, ◌≤◌, replicate, Ok, Err}
 use Rattle.std.proofs.Math.Path.{refl}
 use Rattle.std.proofs.Common.{ap, arith}
 use Rattle.ground.specs.Answer.{accepted, refused}
 use Rattle.ground.specs.declared.Refusal.TheVariants.{RANGE, FULL, TAKEN}
 use Rattle.ground.specs.Refusal.{verdict}
-use Rattle.ground.specs.declared.Verdict.TheVariants.{Pass, Refuse}
 use Rattle.field.specs.Bits.{bits_at}
 use Rattle.packet.specs.Acks.{acks_served}
 use Rattle.packet.specs.Read.{head_read, acks_read, head_at, number_at, base_at, acks_at, ack_at, head_says, acks_says, payload_of}
@@ -160,15 +159,15 @@ module _ (set : Places) (origin : ℕ) (sizes : List ℕ) where
   abbrev taken32 : Sending
   taken32 = record { taken = 32; base = 0; unacked = set; origin = origin; sizes = sizes }
 
-  pub row_7_full : verdict (take_tests (window_of 1) taken32) ≡ Refuse FULL
+  pub row_7_full : verdict (take_tests (window_of 1) taken32) ≡ Err FULL
   row_7_full = refl
 
-  pub row_7_taken : verdict (take_tests (window_of 1) (heard_base (window_of 1) taken32 1)) ≡ Pass
+  pub row_7_taken : verdict (take_tests (window_of 1) (heard_base (window_of 1) taken32 1)) ≡ Ok tt
   unfolding heard_base
   row_7_taken = refl
 
   -- "one": then it is FULL again
-  pub row_7_one : (size : ℕ) → verdict (take_tests (window_of 1) (took_one (window_of 1) (heard_base (window_of 1) taken32 1) size)) ≡ Refuse FULL
+  pub row_7_one : (size : ℕ) → verdict (take_tests (window_of 1) (took_one (window_of 1) (heard_base (window_of 1) taken32 1) size)) ≡ Err FULL
   unfolding heard_base took_one
   row_7_one size = refl
 

@@ -1,44 +1,27 @@
--- The value of a hexadecimal digit, case by case; and a digit written is read back.
+-- Octets in hexadecimal: what is written of each, and that a digit written is read back.
 -- Assumes nothing.
-use Rattle.std.proofs.Common.{◌≡◌, ℕ, ◌+◌, ◌-◌, ◌<◌, ◌≤◌, arith, le-leb}
-use borrow.Author.Tests.{lt-leb}
-use Rattle.ground.proofs.Picks.{pick_lt}
-use Rattle.words.specs.Digits.{hex_digit, upper_digit}
-
-module _ (d : ℕ) where
-  pub decimal : 48 ≤ d → d ≤ 57 → hex_digit d ≡ d - 48
-  unfolding hex_digit
-  decimal a b = simp (le-leb 48 d a, le-leb d 57 b)
-
-  pub upper : 65 ≤ d → d ≤ 70 → hex_digit d ≡ d - 55
-  unfolding hex_digit
-  upper a b = simp (le-leb 48 d (omega arith), lt-leb d 57 (omega arith), lt-leb 97 d (omega arith), le-leb 65 d a, le-leb d 70 b)
-
-  pub lower : 97 ≤ d → d ≤ 102 → hex_digit d ≡ d - 87
-  unfolding hex_digit
-  lower a b = simp (le-leb 48 d (omega arith), lt-leb d 57 (omega arith), le-leb 97 d a, le-leb d 102 b)
-
-  -- an octet that is no digit lies before, between or behind the three runs
-  pub before : d < 48 → hex_digit d ≡ 16
-  unfolding hex_digit
-  before a = simp (lt-leb 48 d a, lt-leb 97 d (omega arith), lt-leb 65 d (omega arith))
-
-  pub between : 57 < d → d < 65 → hex_digit d ≡ 16
-  unfolding hex_digit
-  between a b = simp (le-leb 48 d (omega arith), lt-leb d 57 a, lt-leb 97 d (omega arith), lt-leb 65 d b)
-
-  pub betweens : 70 < d → d < 97 → hex_digit d ≡ 16
-  unfolding hex_digit
-  betweens a b = simp (le-leb 48 d (omega arith), lt-leb d 57 (omega arith), lt-leb 97 d b, le-leb 65 d (omega arith), lt-leb d 70 a)
-
-  pub behind : 102 < d → hex_digit d ≡ 16
-  unfolding hex_digit
-  behind a = simp (le-leb 48 d (omega arith), lt-leb d 57 (omega arith), le-leb 97 d (omega arith), lt-leb d 102 a, le-leb 65 d (omega arith), lt-leb d 70 (omega arith))
+use Rattle.std.proofs.Common.{◌≡◌, ℕ, ◌+◌, ◌-◌, ◌^◌, ◌<◌, true, false, List, [], ◌∷◌, ◌++◌, length, get_or, take, Some, arith}
+use Rattle.std.proofs.lemmas.Bool.Decides.{nat_tests}
+use Rattle.std.proofs.lemmas.Fmt.{hex_byte}
+use Rattle.std.proofs.lemmas.Grind.{flat_map-append}
+use Rattle.std.proofs.lemmas.List.{take_more}
+use Rattle.std.specs.Fmt.{digits, format_spec, padded_integral}
+use Rattle.std.specs.List.{flat_map}
+use Rattle.words.specs.Digits.{hex_digit, upper_digit, octet_digits}
 
 -- a digit written is read back
-pub digit_back : (v : ℕ) → v < 16 → hex_digit (upper_digit v) ≡ v
+pub digit_back : (v : ℕ) → v < 16 → hex_digit (upper_digit v) ≡ Some v
+unfolding hex_digit upper_digit
+digit_back v h = grind (arith, nat_tests)
+
+-- what `{:02X}` writes of an octet
+abbrev pub written : ℕ → List ℕ
+written o = padded_integral (format_spec 32 0 4 2 (2 ^ 64 - 1)) false [] (digits 16 true o)
+
+written_octet : (o : ℕ) → o < 256 → written o ≡ octet_digits o
 unfolding upper_digit
-digit_back v h =
-    pick_lt (λ (d : ℕ). hex_digit d ≡ v) v 10
-    (λ l. omega (arith, decimal (48 + v) (omega arith) (omega arith)))
-    (λ l. omega (arith, upper (55 + v) (omega arith) (omega arith)))
+written_octet o h = hex_byte true o h
+
+-- the octets up to i, and the one there
+pub turn : (os : List ℕ) (i : ℕ) → i < length os → get_or os i 0 < 256 → flat_map octet_digits (take i os) ++ written (get_or os i 0) ≡ flat_map octet_digits (take (i + 1) os)
+turn os i h l = rw (written_octet (get_or os i 0) l, take_more os i 0 h, flat_map-append octet_digits (take i os) (get_or os i 0 ∷ [])) (λ _. flat_map octet_digits (take i os) ++ octet_digits (get_or os i 0))

@@ -1,9 +1,7 @@
 -- What decimal digits say as a number, and what a hexadecimal digit says.
 -- Assumes nothing.
-use Rattle.std.specs.Prelude.{ℕ, ◌+◌, ◌-◌, ◌*◌, ◌^◌, Bool, true, ◌&&◌, List, [], ◌∷◌, length, ◌==◌, nat_le, nat_lt}
-use Rattle.ground.specs.Pick.{pick}
-use Rattle.words.specs.declared.digits.Number.{Number}
-use Rattle.words.specs.declared.digits.Number.TheVariants as number
+use Rattle.std.specs.Prelude.{ℕ, ◌+◌, ◌-◌, ◌*◌, ◌/◌, ◌%◌, ◌^◌, Bool, true, ◌&&◌, if◌then◌else◌, Option, Some, None, List, [], ◌∷◌, length, ◌==◌, nat_le, nat_lt}
+use Rattle.std.specs.List.{flat_map}
 
 -- an octet is one of `0` to `9`
 abbrev pub is_digit : ℕ → Bool
@@ -23,21 +21,30 @@ value_from n [] = n
 value_from n (d ∷ ds) = value_from (grown n d) ds
 
 -- what octets say that follow digits of value n: the value of all together, where all are digits and 64 bits hold it
-unfoldable pub says_from : ℕ → List ℕ → Number
-says_from n w = pick (all_digits w && nat_lt (value_from n w) (2 ^ 64)) (number.Says (value_from n w)) number.Nothing
+unfoldable pub says_from : ℕ → List ℕ → Option ℕ
+says_from n w = if all_digits w && nat_lt (value_from n w) (2 ^ 64) then Some (value_from n w) else None
 
 -- "A number is decimal, with no sign; leading zeros are accepted."
-unfoldable pub number_of : List ℕ → Number
-number_of w = pick (length w == 0) number.Nothing (says_from 0 w)
+unfoldable pub number_of : List ℕ → Option ℕ
+number_of w = if length w == 0 then None else says_from 0 w
 
 -- a number and one octet more
-unfoldable pub longer_by : ℕ → ℕ → Number
-longer_by n d = pick (is_digit d) (pick (nat_lt (grown n d) (2 ^ 64)) (number.Says (grown n d)) number.Nothing) number.Nothing
+unfoldable pub longer_by : ℕ → ℕ → Option ℕ
+longer_by n d = if is_digit d && nat_lt (grown n d) (2 ^ 64) then Some (grown n d) else None
 
--- the value of a hexadecimal digit of either case, 16 where the octet is none
-unfoldable pub hex_digit : ℕ → ℕ
-hex_digit d = pick (is_digit d) (d - 48) (pick (nat_le 97 d && nat_le d 102) (d - 87) (pick (nat_le 65 d && nat_le d 70) (d - 55) 16))
+-- the value of a hexadecimal digit of either case
+unfoldable pub hex_digit : ℕ → Option ℕ
+hex_digit d =
+    if is_digit d then Some (d - 48) else (if nat_le 97 d && nat_le d 102 then Some (d - 87) else (if nat_le 65 d && nat_le d 70 then Some (d - 55) else None))
 
 -- the upper-case digit of a value below 16
 unfoldable pub upper_digit : ℕ → ℕ
-upper_digit v = pick (nat_lt v 10) (48 + v) (55 + v)
+upper_digit v = if nat_lt v 10 then 48 + v else 55 + v
+
+-- an octet in two hexadecimal digits
+abbrev pub octet_digits : ℕ → List ℕ
+octet_digits o = upper_digit (o / 16) ∷ upper_digit (o % 16) ∷ []
+
+-- octets in hexadecimal, `-` for none
+unfoldable pub hexadecimal : List ℕ → List ℕ
+hexadecimal os = if length os == 0 then 45 ∷ [] else flat_map octet_digits os

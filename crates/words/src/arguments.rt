@@ -1,272 +1,134 @@
-// The words that a call asks for, read all at once. A call says what it asks for by a letter for each word:
-//
-//     b a number of 8 bits     w of 16     d of 32     q of 64     f a flag, 0 or 1
-//     l a line, 0 to 3         c a channel, 1 or 2     e a channel, 0 to 3     n a number of 14 bits
-//     i an owed entry, 0 to 63     j a resting one, 0 to 15     s octets of the store, 0 to 42,240
-//     m a mode's letter        k a mode's letter or its number of 8 bits
-//     o octets                 r the space of the output, at most 600; 256 where it is left out
-//     . nothing                * the rest of the line, whatever it says: the value is where it begins
-ghost use Rattle.std.specs.Prelude.{◌≡◌, ◌≤◌, length};
+// The words that a call asks for, read all at once.
+ghost use Rattle.std.specs.Prelude.{◌≤◌, length, IfOk};
 
-use crate::{Number, Octets, next, read_mode, read_number, read_octets, same};
+use crate::{read_mode, read_number, read_octets, split_word};
+use std::error::Error;
+use std::fmt;
 
-// Why words are not what was asked for.
-pub const GOOD: u8 = 0;
+// Why a line is no call.
+#[derive(Clone, Copy, Debug, PartialEq, Eq)]
+pub enum Fault {
+    Unknown,
+    Missing,
+    Extra,
+    Wrong,
+    TooLong,
+    OutOfReach,
+}
 
-pub const UNKNOWN: u8 = 1;
+impl fmt::Display for Fault {
+    fn fmt<W: fmt::Write>(&self, f: &mut fmt::Formatter<W>) -> fmt::Result {
+        f.write_str(match self {
+            Fault::Unknown => "no such call",
+            Fault::Missing => "a word is missing",
+            Fault::Extra => "a word too many",
+            Fault::Wrong => "a word is not of its kind, or a number too large",
+            Fault::TooLong => "too long",
+            Fault::OutOfReach => "a message out of reach",
+        })
+    }
+}
 
-pub const MISSING: u8 = 2;
+impl Error for Fault {}
 
-pub const EXTRA: u8 = 3;
+// What a call asks for in one word.
+#[derive(Clone, Copy, Debug, PartialEq, Eq)]
+pub enum Kind {
+    // A number, at most that one.
+    UpTo(u64),
+    // A channel, 1 or 2.
+    Channel,
+    // A mode's letter.
+    Mode,
+    // A mode's letter, or its number of 8 bits.
+    ModeOrNumber,
+    Octets,
+    // The space of the output, at most 600; 256 where it is left out.
+    Space,
+}
 
-pub const WRONG: u8 = 4;
+// The number that a word says, if it is at most that one.
+fn up_to(most: u64, word: &[u8]) -> Option<u64> {
+    read_number(word).filter(|n| *n <= most)
+}
 
+impl Kind {
+    // The value of a word, if it is a number or a mode as asked for.
+    fn value(self, word: &[u8]) -> Option<u64> {
+        match self {
+            Kind::UpTo(most) => up_to(most, word),
+            Kind::Channel => up_to(2, word).filter(|n| *n != 0),
+            Kind::Mode => read_mode(word),
+            Kind::ModeOrNumber => read_mode(word).or(up_to(255, word)),
+            Kind::Octets => None,
+            Kind::Space => up_to(600, word),
+        }
+    }
+
+    // The value where the word is left out, if it may be.
+    fn left_out(self) -> Option<u64> {
+        match self {
+            Kind::Space => Some(256),
+            _ => None,
+        }
+    }
+}
+
+// The words of a call.
 #[derive(Clone, Copy)]
 pub struct Arguments {
-    // GOOD: every word is what was asked for, none is missing and none too many. Otherwise the first thing that is wrong.
-    pub fault: u8,
     // Which call of its table the words are for.
-    pub call: u8,
-    // Where the words begin that are not read yet.
-    pub at: usize,
-    // The numbers, flags and modes read, in their order, and how many.
-    pub values: [u64; 19],
-    pub count: usize,
+    pub call: usize,
+    // The numbers, flags and modes, each at the place of its word.
+    values: [u64; 19],
     // How many octets were read.
     pub size: usize,
 }
 
-// The largest number that a letter lets pass.
-fn most(letter: u8) -> u64 {
-    match letter {
-        b'f' => 1,
-        b'c' => 2,
-        b'l' | b'e' => 3,
-        b'j' => 15,
-        b'i' => 63,
-        b'b' | b'k' => 255,
-        b'r' => 600,
-        b'n' => 16383,
-        b's' => 42240,
-        b'w' => 65535,
-        b'd' => 4294967295,
-        b'q' => u64::MAX,
-        _ => 0,
-    }
-}
-
-// Does a letter let a number pass?
-fn passes(letter: u8, n: u64) -> bool {
-    (n <= most(letter)) & ((letter != b'c') | (n != 0))
-}
-
-// What a word says that is asked for as a number, a mode, or either.
-fn said(letter: u8, word: &[u8]) -> Number {
-    if letter == b'm' {
-        return read_mode(word);
-    }
-    if letter == b'k' {
-        let named = read_mode(word);
-        if let Number::Says(n) = named {
-            return Number::Says(n);
-        }
-    }
-    read_number(word)
-}
-
-impl Arguments {
-    // Nothing is read yet; the words begin at `at`.
-    fn fresh(at: usize) -> Arguments
-        ensures { result.size ≡ 0 }
-    {
-        let values = [0u64; 19];
-        Arguments {
-            fault: GOOD,
-            call: 0,
-            at,
-            values,
-            count: 0,
-            size: 0,
-        }
-    }
-
-    // No words are read, for that reason.
-    pub fn none(fault: u8) -> Arguments {
-        let none = Arguments::fresh(0);
-        Arguments { fault, ..none }
-    }
-
-    // One word was not what was asked for. The first fault is the one that is told.
-    fn with_fault(self, fault: u8) -> Arguments
-        ensures { result.size ≡ self.size }
-    {
-        if self.fault != GOOD {
-            return self;
-        }
-        Arguments { fault, ..self }
-    }
-
-    // One value more; the words not read yet begin at `at`.
-    fn with(self, at: usize, value: u64) -> Arguments
-        ensures { result.size ≡ self.size }
-    {
-        let count = self.count;
-        let mut next = self;
-        next.at = at;
-        if count < 19 {
-            next.values[count] = value;
-            next.count = count + 1;
-        }
-        next
-    }
-
-    // The word read as a number or a mode.
-    fn numbered(self, letter: u8, word: &[u8], at: usize) -> Arguments
-        ensures { result.size ≡ self.size }
-    {
-        let says = said(letter, word);
-        match says {
-            Number::Nothing => self.with_fault(WRONG),
-            Number::Says(n) => {
-                if (letter == b'm') | passes(letter, n) {
-                    return self.with(at, n);
-                }
-                self.with_fault(WRONG)
-            }
-        }
-    }
-
-    // The word read as octets.
-    fn filled(self, word: &[u8], at: usize, out: &mut [u8]) -> Arguments
-        requires { self.size ≤ length out.old }
-        ensures { result.size ≤ length out.new }
-    {
-        let says = read_octets(word, out);
-        match says {
-            Octets::Nothing => self.with_fault(WRONG),
-            Octets::Says(n) => Arguments {
-                at,
-                size: n,
-                ..self
-            },
-        }
-    }
-
-    // No word is left for a letter.
-    fn without_word(self, letter: u8, end: usize) -> Arguments
-        ensures { result.size ≡ self.size }
-    {
-        match letter {
-            b'.' => self,
-            b'*' => self.with(end, end as u64),
-            b'r' => self.with(end, 256),
-            _ => self.with_fault(MISSING),
-        }
-    }
-
-    // The next word, read as the letter says.
-    fn one(self, s: &[u8], letter: u8, out: &mut [u8]) -> Arguments
-        requires { self.size ≤ length out.old }
-        ensures { result.size ≤ length out.new }
-    {
-        let word = next(s, self.at);
-        let from = word.from;
-        let to = word.to;
-        if from == to {
-            return self.without_word(letter, to);
-        }
-        match letter {
-            b'.' => self,
-            b'*' => self.with(s.len(), from as u64),
-            b'o' => self.filled(&s[from..to], to, out),
-            _ => self.numbered(letter, &s[from..to], to),
-        }
-    }
-}
-
-// The words of a line from `at` on, read as the letters say. Octets are put at the start of `out`, which is their most.
-pub fn read(s: &[u8], at: usize, letters: &[u8], out: &mut [u8]) -> Arguments
-    ensures { result.size ≤ length out.new }
-{
-    let mut read = Arguments::fresh(at);
-    let mut i = 0;
-    while i < letters.len() {
-        read = read.one(s, letters[i], out);
-        i += 1;
-    }
-    let rest = next(s, read.at);
-    if rest.from == rest.to {
-        return read;
-    }
-    read.with_fault(EXTRA)
-}
-
-// A call of a table: its place there, and where its letters lie.
+// A call of a table: its name, and the words that it asks for.
 #[derive(Clone, Copy)]
-struct Entry {
-    place: u8,
-    from: usize,
-    to: usize,
-}
+pub struct Entry(pub &'static [u8], pub &'static [Kind]);
 
-// The call of a table that has a name. A table has up to 32 calls, each a name and its letters.
-fn find(table: &[u8], name: &[u8]) -> Entry
-    ensures { (result.from ≤ result.to) × (result.to ≤ length table.now) }
+// The words of a call, each of the kind asked for. Octets are put at the start of `out`, which is their most. The first fault is told.
+fn read(call: usize, line: &[u8], kinds: &[Kind], out: &mut [u8]) -> Result<Arguments, Fault>
+    ensures { IfOk result (λ arguments. arguments.size ≤ length out.new) }
 {
-    let mut at = 0;
-    let mut place = 0u8;
-    while place < 32 {
-        let word = next(table, at);
-        let from = word.from;
-        let to = word.to;
-        let letters = next(table, to);
-        if same(&table[from..to], name) {
-            return Entry {
-                place,
-                from: letters.from,
-                to: letters.to,
-            };
-        }
-        at = letters.to;
-        place += 1;
-    }
-    Entry {
-        place: 32,
-        from: 0,
-        to: 0,
-    }
-}
-
-// The call that the next word of a line names, as a table has it, and the words that it asks for.
-pub fn call(s: &[u8], at: usize, table: &[u8], out: &mut [u8]) -> Arguments
-    ensures { result.size ≤ length out.new }
-{
-    let word = next(s, at);
-    let from = word.from;
-    let to = word.to;
-    let entry = find(table, &s[from..to]);
-    let first = entry.from;
-    let last = entry.to;
-    let arguments = read(s, to, &table[first..last], out);
-    if first == last {
-        return Arguments {
-            fault: UNKNOWN,
-            ..arguments
+    let mut values = [0; 19];
+    let mut size = 0;
+    let mut rest = line;
+    for (value, kind) in values.iter_mut().zip(kinds) {
+        let Some((word, behind)) = split_word(rest) else {
+            *value = kind.left_out().ok_or(Fault::Missing)?;
+            continue;
         };
+        match kind {
+            Kind::Octets => size = read_octets(word, out).ok_or(Fault::Wrong)?,
+            _ => *value = kind.value(word).ok_or(Fault::Wrong)?,
+        }
+        rest = behind;
     }
-    Arguments {
-        call: entry.place,
-        ..arguments
+    match split_word(rest) {
+        Some(_) => Err(Fault::Extra),
+        None => Ok(Arguments { call, values, size }),
     }
+}
+
+// The call of a table that the first word of a line names, and the words that it asks for.
+pub fn call(line: &[u8], table: &[Entry], out: &mut [u8]) -> Result<Arguments, Fault>
+    ensures { IfOk result (λ arguments. arguments.size ≤ length out.new) }
+{
+    let (name, rest) = split_word(line).ok_or(Fault::Unknown)?;
+    let call = table
+        .iter()
+        .position(|entry| entry.0 == name)
+        .ok_or(Fault::Unknown)?;
+    read(call, rest, table[call].1, out)
 }
 
 impl Arguments {
     // The i-th value.
     pub fn long(self, i: usize) -> u64 {
-        if i < 19 {
-            return self.values[i];
-        }
-        0
+        self.values.get(i).copied().unwrap_or(0)
     }
 
     // The i-th value, of 8 bits.
@@ -293,10 +155,6 @@ impl Arguments {
     pub fn space(self, i: usize, most: usize) -> usize
         ensures { result ≤ most }
     {
-        let n = self.long(i) as usize;
-        if n <= most {
-            return n;
-        }
-        most
+        most.min(self.long(i) as usize)
     }
 }

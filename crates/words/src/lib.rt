@@ -1,128 +1,61 @@
-// The words of one line of a script: where each lies, and the numbers, modes and octets that they say. Which calls there are, and
-// which words each of them asks for, is said by `desk`.
+// The words of one line of a script, and the numbers, modes and octets that they say. Which calls there are, and which words each of
+// them asks for, is said by `desk`.
 #![tactic(auto)]
 
-ghost use Rattle.std.specs.Prelude.{◌≤◌, length};
-ghost use Rattle.words.specs.Words.{Within};
+ghost use Rattle.std.specs.Prelude.{◌+◌, ◌≤◌, length, IfSome};
 
 mod answer; // answer.rt: the words of an answer
 mod arguments; // arguments.rt: the words that a call asks for, all at once
 mod digits; // digits.rt: what digits say
 
-pub use answer::{Numbers, decimal, hexadecimal, listed, put, put_numbers, refusal};
-pub use arguments::{Arguments, EXTRA, MISSING, UNKNOWN, WRONG, call, read};
-pub use digits::{Number, read_number};
-
-// A word of a line: where its first octet lies, and the place after its last. Where no word is left, both are the line's end.
-#[derive(Clone, Copy)]
-pub struct Word {
-    pub from: usize,
-    pub to: usize,
-}
-
-// How many octets a word says, or that it says none.
-#[derive(Clone, Copy)]
-pub enum Octets {
-    Says(usize),
-    Nothing,
-}
+pub use answer::{Hexadecimal, Numbers, Refused};
+pub use arguments::{Arguments, Entry, Fault, Kind, call};
+pub use digits::read_number;
 
 // Does an octet part words: a space or a tab?
 pub fn parts(octet: u8) -> bool {
-    (octet == b' ') | (octet == b'\t')
+    matches!(octet, b' ' | b'\t')
 }
 
-// How far octets go on from `at` that part words, or that do not.
-fn past(s: &[u8], at: usize, parting: bool) -> usize
-    requires { at ≤ length s.now }
-    ensures { (at ≤ result) × (result ≤ length s.now) }
+// The first word of a line and what stands behind it; nothing where no word is left.
+pub fn split_word(line: &[u8]) -> Option<(&[u8], &[u8])>
+    ensures { IfSome result (λ halves. length halves.0.now + length halves.1.now ≤ length line.now) }
 {
-    let mut i = at;
-    while i < s.len() {
-        if parts(s[i]) != parting {
-            return i;
-        }
-        i += 1;
-    }
-    i
-}
-
-// The next word, from `at` on.
-pub fn next(s: &[u8], at: usize) -> Word
-    ensures { (result.from ≤ result.to) × (result.to ≤ length s.now) }
-{
-    let end = s.len();
-    if end < at {
-        return Word { from: end, to: end };
-    }
-    let from = past(s, at, true);
-    let to = past(s, from, false);
-    Word { from, to }
-}
-
-// Is a word that name?
-pub fn same(word: &[u8], name: &[u8]) -> bool {
-    if word.len() != name.len() {
-        return false;
-    }
-    let mut i = 0;
-    while i < name.len() {
-        if word[i] != name[i] {
-            return false;
-        }
-        i += 1;
-    }
-    true
+    let from = line.iter().position(|octet| !parts(*octet))?;
+    let rest = &line[from..];
+    let to = rest
+        .iter()
+        .position(|octet| parts(*octet))
+        .unwrap_or(rest.len());
+    Some(rest.split_at(to))
 }
 
 // A mode, by its letter, as Table C.1 numbers it; 0 is i.
-pub fn read_mode(word: &[u8]) -> Number {
-    if word.len() != 1 {
-        return Number::Nothing;
-    }
-    let letter = word[0];
-    match letter {
-        b'i' => Number::Says(0),
-        b'a' => Number::Says(1),
-        b'v' => Number::Says(2),
-        b'm' => Number::Says(3),
-        b'f' => Number::Says(4),
-        b't' => Number::Says(5),
-        _ => Number::Nothing,
+pub fn read_mode(word: &[u8]) -> Option<u64> {
+    match word {
+        b"i" => Some(0),
+        b"a" => Some(1),
+        b"v" => Some(2),
+        b"m" => Some(3),
+        b"f" => Some(4),
+        b"t" => Some(5),
+        _ => None,
     }
 }
 
-// Is a word `-`, which stands for no octets?
-fn none(word: &[u8]) -> bool {
-    if word.len() != 1 {
-        return false;
-    }
-    word[0] == b'-'
-}
-
-// Octets in hexadecimal, put at the start of `out`, or `-` for none; no more than `out` has room for.
-pub fn read_octets(word: &[u8], out: &mut [u8]) -> Octets
-    ensures { Within result (length out.new) }
+// Octets in hexadecimal, put at the start of `out`, or `-` for none; no more than `out` has room for. Answers how many they are.
+pub fn read_octets(word: &[u8], out: &mut [u8]) -> Option<usize>
+    ensures { IfSome result (λ count. count ≤ length out.new) }
 {
-    if none(word) {
-        return Octets::Says(0);
+    if matches!(word, b"-") {
+        return Some(0);
     }
-    let count = word.len() >> 1;
-    if word.len() & 1 != 0 {
-        return Octets::Nothing;
+    let count = word.len() / 2;
+    if word.len() % 2 != 0 || out.len() < count {
+        return None;
     }
-    if out.len() < count {
-        return Octets::Nothing;
+    for (octet, pair) in out.iter_mut().zip(word.chunks_exact(2)) {
+        *octet = digits::hex_digit(pair[0])? << 4 | digits::hex_digit(pair[1])?;
     }
-    let mut i = 0;
-    while i < count {
-        let high = digits::hex_digit(word[2 * i]);
-        let low = digits::hex_digit(word[2 * i + 1]);
-        if (15 < high) | (15 < low) {
-            return Octets::Nothing;
-        }
-        out[i] = high << 4 | low;
-        i += 1;
-    }
-    Octets::Says(i)
+    Some(count)
 }

@@ -8,12 +8,9 @@ use native.Mathlib.Omega.{arith}
 use lib.Dec.{ltb, leb, eqb}
 use lib.ListN.{length, get_or, drop, get_or-eq_default}
 use borrow.Author.Tests.{lt-ltb, le-leb, eq-eqb, leb-true}
-use Rattle.ground.specs.Refusal.{Test, verdict, settle}
+use Rattle.std.specs.Prelude.{Result, Ok, Err}
+use Rattle.ground.specs.Refusal.{Verdict, Test, verdict, settle}
 use Rattle.ground.specs.Answer.{Writes, contents}
-use Rattle.ground.specs.declared.Verdict.{Verdict}
-use Rattle.ground.specs.declared.WriteAnswer.{WriteAnswer}
-use Rattle.ground.specs.declared.WriteAnswer.TheVariants.{Wrote, Refused}
-use Rattle.ground.specs.declared.Verdict.TheVariants.{Pass}
 use Rattle.ground.proofs.Picks.{each, together, both_true, pick_by, pick_lt}
 use Rattle.ground.proofs.Verdicts.{Holds, passed, passes}
 use Rattle.field.specs.Word.{served}
@@ -28,6 +25,7 @@ use Rattle.line.specs.Figures.{send_largest}
 use Rattle.line.specs.declared.Line.{Line}
 use Rattle.line.proofs.Keeps.{LineOk, line_ok}
 use Rattle.writing.specs.Write.{acks_for, base_for, head_for, header_length_for, empty_packet, empty_tests}
+use Rattle.ground.specs.declared.Refusal.{Refusal}
 
 spans_at : (ws : List ℕ) (k : ℕ) → all_spans ws ≡ true → k < length ws → served (get_or ws k 0) ≡ true
 unfolding all_spans
@@ -74,7 +72,7 @@ module _ (l : Line) where
   pub packet_passes : LineOk l → (channel number space : ℕ) (payload : List ℕ) → channel ≤ 2 → number < 16384
       → numbers_placed (head_for l channel number) (length payload) ≡ true → size_fits channel (length payload) (send_largest l) ≡ true
       → length (packet_octets (head_for l channel number) (acks_for l) payload) ≤ space
-      → verdict (write_tests (head_for l channel number) (acks_for l) payload (send_largest l) space) ≡ Pass
+      → verdict (write_tests (head_for l channel number) (acks_for l) payload (send_largest l) space) ≡ Ok tt
   unfolding fields_fit
   packet_passes k channel number space payload c n p z r =
       let s = each (leb l.identifier 127 ∷ leb 96 l.kind ∷ leb l.kind 127 ∷ []) k.settings in
@@ -91,7 +89,7 @@ unfolding empty_packet
 empty_length l channel = packet_length (head_for l channel 0) (acks_for l) (acks_few l) [] ∙ omega arith
 
 -- all tests before an empty packet is written pass: then it is written
-module _ (l : Line) (fits : line_fits l ≡ true) (channel space : ℕ) (pass : verdict (empty_tests l channel space) ≡ Pass) where
+module _ (l : Line) (fits : line_fits l ≡ true) (channel space : ℕ) (pass : verdict (empty_tests l channel space) ≡ Ok tt) where
   tests : Holds (empty_tests l channel space)
   tests = passed (empty_tests l channel space) pass
 
@@ -110,13 +108,13 @@ module _ (l : Line) (fits : line_fits l ≡ true) (channel space : ℕ) (pass : 
   unfolding size_fits
   fitting = pick_by (λ (t : Bool). t ≡ true) (eqb channel 0) (λ e. refl) (λ e. refl)
 
-  pub empty_passes : verdict (write_tests (head_for l channel 0) (acks_for l) [] (send_largest l) space) ≡ Pass
+  pub empty_passes : verdict (write_tests (head_for l channel 0) (acks_for l) [] (send_largest l) space) ≡ Ok tt
   unfolding empty_tests empty_packet
   empty_passes = packet_passes l ok channel 0 space [] (leb-true _ _ tests.1.1.0) (omega arith) placed fitting (rw (empty_length l channel) (leb-true _ _ tests.1.1.1.0))
 
 -- what the packet's writer promises, where its tests pass
-pub written_out : {ts : List Test} {octets before after : List ℕ} {r : WriteAnswer} → Writes ts octets before after r → verdict ts ≡ Pass
-    → (r ≡ Wrote (length octets)) × (after ≡ octets ++ drop (length octets) before)
+pub written_out : {ts : List Test} {octets before after : List ℕ} {r : Result ℕ Refusal} → Writes ts octets before after r → verdict ts ≡ Ok tt
+    → (r ≡ Ok (length octets)) × (after ≡ octets ++ drop (length octets) before)
 written_out {octets = octets} {before = before} w e =
-    let p = w.gives.is ∙ ap (λ (v : Verdict). settle v Refused (Wrote (length octets))) e in
-    (p, w.leaves ∙ ap (λ (v : WriteAnswer). contents v octets before) p)
+    let p = w.gives.is ∙ ap (λ (v : Verdict). settle v Err (Ok (length octets))) e in
+    (p, w.leaves ∙ ap (λ (v : Result ℕ Refusal). contents v octets before) p)

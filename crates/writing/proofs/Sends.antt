@@ -9,23 +9,18 @@ use lib.Dec.{ltb, leb}
 use lib.ListN.{length, drop, length-drop}
 use lib.Seq.{length-take-le}
 use borrow.Author.Tests.{le-leb, lt-leb, ltb-true, leb-true, ne_eqb}
-use Rattle.ground.specs.Refusal.{Test, must, verdict, settle}
+use Rattle.std.specs.Prelude.{Option, Some, None, Result, Ok, Err}
+use Rattle.ground.specs.Refusal.{Verdict, Test, must, verdict, settle}
 use Rattle.ground.specs.declared.Refusal.{Refusal}
 use Rattle.ground.specs.declared.Refusal.TheVariants.{NOTHING, ROOM}
-use Rattle.ground.specs.declared.Verdict.{Verdict}
-use Rattle.ground.specs.declared.Verdict.TheVariants.{Pass, Refuse}
 use Rattle.ground.proofs.Picks.{both_true, clash}
 use Rattle.ground.proofs.Verdicts.{passed, pass_both, verdict_on, verdict_stop}
 use Rattle.places.specs.Places.{mask_of, rank_of}
-use Rattle.places.specs.declared.Place.{Place}
-use Rattle.places.specs.declared.Place.TheVariants.{At, Missing}
 use Rattle.places.proofs.Ranks.{rank_holds, rank_below}
 use Rattle.channel.specs.Channel.{modulus}
 use Rattle.sending.specs.Sending.{SendingOk, sending_fits, held_at, held_of, under_way}
 use Rattle.channel.specs.Sizes.{message_fits}
 use Rattle.sending.specs.declared.Held.{Held}
-use Rattle.sending.specs.declared.Ranked.{Ranked}
-use Rattle.sending.specs.declared.Ranked.TheVariants.{Is, Nothing}
 use Rattle.sending.specs.declared.Sending.{Sending}
 use Rattle.channel.proofs.Distances.{place_lt}
 use Rattle.flow.proofs.Keeps.{sending_sized}
@@ -47,49 +42,47 @@ use Rattle.relay.specs.RelayTests.{reliable, relay_channel_tests}
 use Rattle.relay.proofs.Lines.{ok, inside, sending_steps, channel_span, slot_in}
 use Rattle.writing.specs.Write.{acks_for, head_for}
 use Rattle.writing.specs.Send.{ranked, is_held, held_in, sent_length, send_tests, send_verdict, Sendable}
-use Rattle.writing.specs.declared.SendVerdict.{SendVerdict}
-use Rattle.writing.specs.declared.SendVerdict.TheVariants.{Message, Refused}
 use Rattle.writing.proofs.Packets.{acks_few, packet_passes}
 
 -- an answer by a verdict, read back
-says_passed : {h : Held} (v : Verdict) (k : Held) → settle v Refused (Message k) ≡ Message h → (v ≡ Pass) × (h ≡ k)
-says_passed Pass k e = (refl, cc)
-says_passed (Refuse r) k e = absurd (let z : ◌≡◌ {A = ℕ} 0 1 = cc in omega arith)
+says_passed : {h : Held} (v : Verdict) (k : Held) → settle v Err (Ok k) ≡ Ok h → (v ≡ Ok tt) × (h ≡ k)
+says_passed (Ok tt) k e = (refl, cc)
+says_passed (Err r) k e = absurd (let z : ◌≡◌ {A = ℕ} 0 1 = cc in omega arith)
 
 -- Each answer to the call.
 module _ (l : Line) (channel rank space : ℕ) where
   -- the tests of the message itself
-  abbrev tested : Ranked → List Test
+  abbrev tested : Option Held → List Test
   tested k = must (is_held k) NOTHING ∷ must (leb (sent_length l (held_in k)) space) ROOM ∷ []
 
-  abbrev says : Verdict → Ranked → SendVerdict
-  says v k = settle v Refused (Message (held_in k))
+  abbrev says : Verdict → Option Held → Result Held Refusal
+  says v k = settle v Err (Ok (held_in k))
 
   -- line or channel refuse
-  pub send_refused : {r : Refusal} → verdict (relay_channel_tests l channel) ≡ Refuse r → send_verdict l channel rank space ≡ Refused r
+  pub send_refused : {r : Refusal} → verdict (relay_channel_tests l channel) ≡ Err r → send_verdict l channel rank space ≡ Err r
   unfolding send_verdict send_tests
   send_refused e = ap (λ (v : Verdict). says v (ranked l channel rank)) (verdict_stop (relay_channel_tests l channel) (tested (ranked l channel rank)) e)
 
-  module _ (asked : verdict (relay_channel_tests l channel) ≡ Pass) where
+  module _ (asked : verdict (relay_channel_tests l channel) ≡ Ok tt) where
     then : send_verdict l channel rank space ≡ says (verdict (tested (ranked l channel rank))) (ranked l channel rank)
     unfolding send_verdict send_tests
     then = ap (λ (v : Verdict). says v (ranked l channel rank)) (verdict_on (relay_channel_tests l channel) (tested (ranked l channel rank)) asked)
 
     -- there is no message of that rank
-    pub send_nothing : ranked l channel rank ≡ Nothing → send_verdict l channel rank space ≡ Refused NOTHING
-    send_nothing e = then ∙ ap (λ (k : Ranked). says (verdict (tested k)) k) e
+    pub send_nothing : ranked l channel rank ≡ None → send_verdict l channel rank space ≡ Err NOTHING
+    send_nothing e = then ∙ ap (λ (k : Option Held). says (verdict (tested k)) k) e
 
-    module _ {h : Held} (found : ranked l channel rank ≡ Is h) where
+    module _ {h : Held} (found : ranked l channel rank ≡ Some h) where
       -- there is one, and its packet has no room
-      pub send_room : space < sent_length l h → send_verdict l channel rank space ≡ Refused ROOM
-      send_room q = then ∙ ap (λ (k : Ranked). says (verdict (tested k)) k) found ∙ rw (lt-leb (sent_length l h) space q)
+      pub send_room : space < sent_length l h → send_verdict l channel rank space ≡ Err ROOM
+      send_room q = then ∙ ap (λ (k : Option Held). says (verdict (tested k)) k) found ∙ rw (lt-leb (sent_length l h) space q)
 
       -- or has it
-      pub send_may : sent_length l h ≤ space → send_verdict l channel rank space ≡ Message h
-      send_may q = then ∙ ap (λ (k : Ranked). says (verdict (tested k)) k) found ∙ rw (le-leb (sent_length l h) space q)
+      pub send_may : sent_length l h ≤ space → send_verdict l channel rank space ≡ Ok h
+      send_may q = then ∙ ap (λ (k : Option Held). says (verdict (tested k)) k) found ∙ rw (le-leb (sent_length l h) space q)
 
   -- and what an answer says of the tests
-  pub may_passed : {h : Held} → send_verdict l channel rank space ≡ Message h → (verdict (send_tests l channel rank space) ≡ Pass) × (h ≡ held_in (ranked l channel rank))
+  pub may_passed : {h : Held} → send_verdict l channel rank space ≡ Ok h → (verdict (send_tests l channel rank space) ≡ Ok tt) × (h ≡ held_in (ranked l channel rank))
   unfolding send_verdict
   may_passed = says_passed (verdict (send_tests l channel rank space)) (held_in (ranked l channel rank))
 
@@ -99,15 +92,15 @@ held_there : (w z : ℕ) (s : Sending) (rank : ℕ) → SendingOk w s → sendin
 unfolding held_of
 held_there w z s rank k f = go (rank_of (mask_of s.unacked) rank) refl
   where
-    go : (p : Place) → rank_of (mask_of s.unacked) rank ≡ p → is_held (held_at w s p) ≡ true
+    go : (p : Option ℕ) → rank_of (mask_of s.unacked) rank ≡ p → is_held (held_at w s p) ≡ true
         → ((held_in (held_at w s p)).place < w) × (message_fits z (held_in (held_at w s p)).size ≡ true)
-    go (At i) e t =
+    go (Some i) e t =
         let i-under : i < under_way s = rank_below (mask_of s.unacked) rank i (under_way s) k.masked e in
         (place_lt w s.origin i k.placed (omega (arith, k)), sending_sized w z s f i (omega (arith, k)) (rank_holds (mask_of s.unacked) rank i e).1)
-    go Missing e t = clash t
+    go None e t = clash t
 
 -- so a message that may be written can be
-pub may_sendable : (l : Line) (channel rank space : ℕ) {h : Held} → line_fits l ≡ true → send_verdict l channel rank space ≡ Message h → Sendable l channel space h
+pub may_sendable : (l : Line) (channel rank space : ℕ) {h : Held} → line_fits l ≡ true → send_verdict l channel rank space ≡ Ok h → Sendable l channel space h
 unfolding send_tests
 may_sendable l channel rank space fits e =
     let p = may_passed l channel rank space e in
@@ -166,7 +159,7 @@ module _ (l : Line) (fits : line_fits l ≡ true) (channel space : ℕ) (h : Hel
     fitting = rw (ne_eqb channel 0 (λ e. omega (arith, served))) (le-leb (length octets) (send_largest l) (omega (arith, octets_length, send_size.1)))
 
     -- and its packet may be written
-    pub send_passes : verdict (write_tests (head_for l channel (h.number % modulus)) (acks_for l) octets (send_largest l) space) ≡ Pass
+    pub send_passes : verdict (write_tests (head_for l channel (h.number % modulus)) (acks_for l) octets (send_largest l) space) ≡ Ok tt
     send_passes =
         packet_passes l okay channel (h.number % modulus) space octets served.1 (omega arith) placed fitting
         (rw (packet_length (head_for l channel (h.number % modulus)) (acks_for l) (acks_few l) octets, octets_length) k.roomy)

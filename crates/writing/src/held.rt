@@ -1,48 +1,37 @@
 // A held message written as a packet (RULES 5.4, RULES 5.5, RULES 14.4). The call is a verdict, worked out first, and an effect, made
 // only where the verdict lets it pass. What the packet has in common with every other that a line writes is made in lib.rt.
 ghost use Rattle.std.specs.Prelude.{◌≡◌, true, ◌≤◌, ◌++◌, length, drop};
-ghost use Rattle.ground.specs.declared.WriteAnswer.{WriteAnswer};
 ghost use Rattle.line.specs.Fit.{line_fits};
 ghost use Rattle.line.specs.Part.{part_length};
 ghost use Rattle.writing.specs.Write.{wrote_line};
 ghost use Rattle.writing.specs.Send.{send_verdict, held_packet, Sendable};
 
-use crate::{SendVerdict, WriteStep};
+use crate::WriteStep;
 use channel::Channel;
-use ground::{Refusal, Verdict};
+use ground::Refusal;
 use line::Line;
-use sending::{Held, Ranked};
+use sending::Held;
 use store::Way;
 
-// May the held message of a rank be written into `space` octets? NOLINE, MODE, CHANNEL, NOTHING, ROOM.
-pub fn may_send(l: Line, channel: u8, rank: u8, space: usize) -> SendVerdict
+// The held message of a rank, if it may be written into `space` octets: NOLINE, MODE, CHANNEL, NOTHING, ROOM.
+pub fn may_send(l: Line, channel: u8, rank: u8, space: usize) -> Result<Held, Refusal>
     requires { line_fits l ≡ true }
     ensures { result ≡ send_verdict l channel rank space }
 {
-    let earlier = relay::channel_verdict(l, channel);
-    match earlier {
-        Verdict::Refuse(r) => SendVerdict::Refused(r),
-        Verdict::Pass => {
-            let window = l.send_window(channel);
-            let found = l.sending(channel).ranked(window, rank as u32);
-            match found {
-                Ranked::Nothing => SendVerdict::Refused(Refusal::NOTHING),
-                Ranked::Is(h) => {
-                    if crate::header_length(l) + (h.size as usize) <= space {
-                        SendVerdict::Message(h)
-                    } else {
-                        SendVerdict::Refused(Refusal::ROOM)
-                    }
-                }
-            }
-        }
+    relay::channel_verdict(l, channel)?;
+    let side = l.sending(channel);
+    let window = l.send_window(channel);
+    let h = side.ranked(window, rank as u32).ok_or(Refusal::NOTHING)?;
+    if space < crate::header_length(l) + (h.size as usize) {
+        return Err(Refusal::ROOM);
     }
+    Ok(h)
 }
 
 // Writes a held message.
 pub fn send(l: Line, part: &[u8], channel: u8, h: Held, out: &mut [u8]) -> WriteStep
     requires { (line_fits l ≡ true) × (part_length l ≤ length part.now) × Sendable l channel (length out.old) h }
-    ensures { (result.line ≡ wrote_line l) × (result.answer ≡ WriteAnswer.Wrote (length (held_packet l channel h part.now))) × (out.new ≡ held_packet l channel h part.now ++ drop (length (held_packet l channel h part.now)) out.old) }
+    ensures { (result.line ≡ wrote_line l) × (result.size ≡ length (held_packet l channel h part.now)) × (out.new ≡ held_packet l channel h part.now ++ drop (length (held_packet l channel h part.now)) out.old) }
 {
     let region = l.region(Way::Sending, channel);
     let at = region.slot(h.place);
@@ -50,7 +39,7 @@ pub fn send(l: Line, part: &[u8], channel: u8, h: Held, out: &mut [u8]) -> Write
     let head = crate::head_for(l, channel, (h.number & Channel::NUMBER) as u16);
     let acks = crate::acks_for(l);
     let largest = l.send_largest() as usize;
-    let answer = packet::write_packet(out, head, acks, &part[at..end], largest);
+    let size = packet::write_packet(out, head, acks, &part[at..end], largest).unwrap();
     let line = crate::wrote_line(l);
-    WriteStep { line, answer }
+    WriteStep { line, size }
 }

@@ -3,18 +3,15 @@
 // line owes, at most three, and they leave its list (RULES 5.7). Packets with a message stand in held.rt.
 #![tactic(auto)]
 
-ghost use Rattle.std.specs.Prelude.{◌≡◌, true, ◌≤◌, ◌++◌, length, drop};
+ghost use Rattle.std.specs.Prelude.{◌≡◌, true, ◌≤◌, ◌++◌, length, drop, Ok};
 ghost use Rattle.ground.specs.Refusal.{verdict};
-ghost use Rattle.ground.specs.declared.Verdict.TheVariants.{Pass};
-ghost use Rattle.ground.specs.declared.WriteAnswer.{WriteAnswer};
 ghost use Rattle.line.specs.Fit.{line_fits};
 ghost use Rattle.writing.specs.Write.{acks_for, wrote_line, base_for, head_for, header_length_for, empty_packet, empty_tests};
 
 use channel::Channel;
-use ground::{Refusal, Verdict, WriteAnswer};
+use ground::Refusal;
 use line::Line;
 use packet::{Acks, Head};
-use sending::Held;
 
 mod held; // held.rt: a held message written
 
@@ -24,14 +21,7 @@ pub use held::{may_send, send};
 #[derive(Clone, Copy)]
 pub struct WriteStep {
     pub line: Line,
-    pub answer: WriteAnswer,
-}
-
-// The held message that may be written, or why none may.
-#[derive(Clone, Copy)]
-pub enum SendVerdict {
-    Message(Held),
-    Refused(Refusal),
+    pub size: usize,
 }
 
 // The acknowledgements that the next packet carries.
@@ -82,35 +72,29 @@ pub fn header_length(l: Line) -> usize
 }
 
 // May an empty packet be written into `space` octets? NOLINE, MODE, CHANNEL, ROOM.
-pub fn may_write_empty(l: Line, channel: u8, space: usize) -> Verdict
+pub fn may_write_empty(l: Line, channel: u8, space: usize) -> Result<(), Refusal>
     ensures { result ≡ verdict (empty_tests l channel space) }
 {
-    let earlier = relay::relay_verdict(l);
-    match earlier {
-        Verdict::Refuse(r) => Verdict::Refuse(r),
-        Verdict::Pass => {
-            if 2 < channel {
-                return Verdict::Refuse(Refusal::CHANNEL);
-            }
-            if header_length(l) <= space {
-                Verdict::Pass
-            } else {
-                Verdict::Refuse(Refusal::ROOM)
-            }
-        }
+    relay::relay_verdict(l)?;
+    if 2 < channel {
+        return Err(Refusal::CHANNEL);
     }
+    if space < header_length(l) {
+        return Err(Refusal::ROOM);
+    }
+    Ok(())
 }
 
 // Writes an empty packet.
 pub fn write_empty(l: Line, channel: u8, out: &mut [u8]) -> WriteStep
-    requires { (line_fits l ≡ true) × (verdict (empty_tests l channel (length out.old)) ≡ Pass) }
-    ensures { (result.line ≡ wrote_line l) × (result.answer ≡ WriteAnswer.Wrote (length (empty_packet l channel))) × (out.new ≡ empty_packet l channel ++ drop (length (empty_packet l channel)) out.old) }
+    requires { (line_fits l ≡ true) × (verdict (empty_tests l channel (length out.old)) ≡ Ok tt) }
+    ensures { (result.line ≡ wrote_line l) × (result.size ≡ length (empty_packet l channel)) × (out.new ≡ empty_packet l channel ++ drop (length (empty_packet l channel)) out.old) }
 {
     let none = [0u8; 1];
     let head = head_for(l, channel, 0);
     let acks = acks_for(l);
     let largest = l.send_largest() as usize;
-    let answer = packet::write_packet(out, head, acks, &none[..0], largest);
+    let size = packet::write_packet(out, head, acks, &none[..0], largest).unwrap();
     let line = wrote_line(l);
-    WriteStep { line, answer }
+    WriteStep { line, size }
 }

@@ -1,7 +1,5 @@
 use Rattle.breaks.proofs.Writes.{write_done}
 use Rattle.breaks.proofs.write.Goals as goal
 
-pub returns-in-Pass : goal.returns-in-Pass
-returns-in-Pass c =
-    let at = c.args in
-    write_done at.b at.out.now c.write_verdict.ensures c.in-Pass.is c.put_word.ensures
+pub returns : goal.returns
+returns c = write_done c.args.b c.args.out.now c.write_verdict.ensures c.in_ok-write_verdict.was c.put_word.ensures

@@ -1,3 +1,4 @@
+use Rattle.ground.proofs.Settled.{handed_on}
 use Rattle.slip.specs.Slip.{slip_length}
 use Rattle.calls.specs.Order.{close_order}
 use Rattle.calls.specs.Stages.{fit_book, line_number, must_be_open}
@@ -7,18 +8,18 @@ use Rattle.ground.specs.declared.Refusal.TheVariants.{ROOM}
 use Rattle.ground.specs.Refusal.{must}
 use lib.Dec.{leb}
 use mathlib.Core.List.{[], ◌∷◌}
-use mathlib.Core.Path.{refl}
+use mathlib.Core.Path.{refl, ◌∙◌}
 use borrow.Author.Tests.{le-leb, lt-leb}
 use Rattle.calls.proofs.may_close.Goals as goal
 
-pub returns-in-Refuse : goal.returns-in-Refuse
+pub returns-in_err-open_line_verdict : goal.returns-in_err-open_line_verdict
 unfolding close_order
-returns-in-Refuse c = let a = c.args in stops (fit_book a.book ∷ line_number a.line ∷ must_be_open (line_of a.book a.line) ∷ []) (must (leb slip_length a.space) ROOM ∷ []) refl c.open_line_verdict-earlier.ensures c.in-Refuse.is
+returns-in_err-open_line_verdict c = let a = c.args in handed_on c.from_residual.result c.from_residual.ensures.1 ∙ stops (fit_book a.book ∷ line_number a.line ∷ must_be_open (line_of a.book a.line) ∷ []) (must (leb slip_length a.space) ROOM ∷ []) refl c.open_line_verdict.ensures c.in_err-open_line_verdict.was
 
-pub returns-then-space-ge-LENGTH : goal.returns-then-space-ge-LENGTH
+pub returns : goal.returns
 unfolding close_order
-returns-then-space-ge-LENGTH c = let a = c.args in goes_on (fit_book a.book ∷ line_number a.line ∷ must_be_open (line_of a.book a.line) ∷ []) (must (leb slip_length a.space) ROOM ∷ []) refl c.open_line_verdict-earlier.ensures c.in-Pass.is (simp (le-leb _ _ c.if-space-ge-LENGTH.true))
+returns c = let a = c.args in goes_on (fit_book a.book ∷ line_number a.line ∷ must_be_open (line_of a.book a.line) ∷ []) (must (leb slip_length a.space) ROOM ∷ []) refl c.open_line_verdict.ensures c.in_ok-open_line_verdict.was (simp (le-leb _ _ c.if-space-lt-LENGTH.false))
 
-pub returns-else-space-ge-LENGTH : goal.returns-else-space-ge-LENGTH
+pub returns-then-space-lt-LENGTH : goal.returns-then-space-lt-LENGTH
 unfolding close_order
-returns-else-space-ge-LENGTH c = let a = c.args in goes_on (fit_book a.book ∷ line_number a.line ∷ must_be_open (line_of a.book a.line) ∷ []) (must (leb slip_length a.space) ROOM ∷ []) refl c.open_line_verdict-earlier.ensures c.in-Pass.is (simp (lt-leb _ _ c.if-space-ge-LENGTH.false))
+returns-then-space-lt-LENGTH c = let a = c.args in goes_on (fit_book a.book ∷ line_number a.line ∷ must_be_open (line_of a.book a.line) ∷ []) (must (leb slip_length a.space) ROOM ∷ []) refl c.open_line_verdict.ensures c.in_ok-open_line_verdict.was (simp (lt-leb _ _ c.if-space-lt-LENGTH.true))

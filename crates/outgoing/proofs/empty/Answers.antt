@@ -1,4 +1,4 @@
-use Rattle.calls.proofs.Results.{did_refused, result_accepted}
+use Rattle.calls.proofs.Results.{refused_does, result_accepted}
 use Rattle.calls.specs.Result.{result_with, accepted_result, effect}
 use Rattle.calls.proofs.FirstTests.{asked_line}
 use Rattle.calls.proofs.OrderStages.{empty_stages}
@@ -7,34 +7,34 @@ use Rattle.calls.specs.Call as call
 use Rattle.book.specs.Book.{with_line}
 use Rattle.writing.specs.Write.{empty_packet, wrote_line}
 use Rattle.line.specs.declared.Line.{Line}
-use Rattle.ground.specs.declared.WriteAnswer.TheVariants.{Wrote}
 use Rattle.ground.specs.Answer.{write_says}
 use lib.ListN.{length, drop}
 use mathlib.Core.List.{◌++◌}
-use mathlib.Core.Path.{sym, ap, ◌∙◌}
+use mathlib.Core.Path.{refl, sym, ap, ◌∙◌}
+use Rattle.std.specs.Prelude.{Ok}
 use Rattle.outgoing.proofs.empty.Goals as goal
 
 pub line-requires : goal.line-requires
-line-requires c = let a = c.args in (asked_line (empty_stages a.book a.line a.channel (length a.out.now)) c.may_write_empty-verdict.ensures c.in-Pass.is).0.number
+line-requires c = let a = c.args in (asked_line (empty_stages a.book a.line a.channel (length a.out.now)) c.may_write_empty.ensures c.in_ok-may_write_empty.was).0.number
 
 pub write_empty-sent-requires : goal.write_empty-sent-requires
-write_empty-sent-requires c = let a = c.args in let o = asked_line (empty_stages a.book a.line a.channel (length a.out.now)) c.may_write_empty-verdict.ensures c.in-Pass.is in rw c.line.ensures (o.0.line, o.1)
+write_empty-sent-requires c = let a = c.args in let o = asked_line (empty_stages a.book a.line a.channel (length a.out.now)) c.may_write_empty.ensures c.in_ok-may_write_empty.was in rw c.line.ensures (o.0.line, o.1)
 
-pub with_line-next-requires : goal.with_line-next-requires
-with_line-next-requires c = let a = c.args in (asked_line (empty_stages a.book a.line a.channel (length a.out.now)) c.may_write_empty-verdict.ensures c.in-Pass.is).0.number
+pub with_line-book-requires : goal.with_line-book-requires
+with_line-book-requires c = let a = c.args in (asked_line (empty_stages a.book a.line a.channel (length a.out.now)) c.may_write_empty.ensures c.in_ok-may_write_empty.was).0.number
 
-pub returns-in-Refuse : goal.returns-in-Refuse
+pub returns-in_err-may_write_empty : goal.returns-in_err-may_write_empty
 unfolding order accepted_result effect line_for
-returns-in-Refuse c = λ store. let a = c.args in sym (did_refused (call.empty a.line a.channel) a.book store a.out.now (sym c.may_write_empty-verdict.ensures ∙ c.in-Refuse.is))
+returns-in_err-may_write_empty c = λ store. let a = c.args in refused_does write_says (λ r. refl) (call.empty a.line a.channel) a.book store a.out.now c.from_residual.result c.from_residual.ensures.1 (sym c.may_write_empty.ensures ∙ c.in_err-may_write_empty.was)
 
-pub returns-in-Pass : goal.returns-in-Pass
+pub returns : goal.returns
 unfolding order accepted_result effect line_for
-returns-in-Pass c =
+returns c =
     λ store. let a = c.args in
-    let v = sym c.may_write_empty-verdict.ensures ∙ c.in-Pass.is in
+    let v = sym c.may_write_empty.ensures ∙ c.in_ok-may_write_empty.was in
     let l = c.line.ensures in
     let w = c.write_empty-sent.ensures in
-    let n = w.1 ∙ ap (λ (k : Line). Wrote (length (empty_packet k a.channel))) l in
-    let b = c.with_line-next.ensures ∙ ap (λ (k : Line). with_line a.book a.line k) (w.0 ∙ ap (λ (k : Line). wrote_line k) l) in
+    let n = w.1 ∙ ap (λ (k : Line). length (empty_packet k a.channel)) l in
+    let b = c.with_line-book.ensures ∙ ap (λ (k : Line). with_line a.book a.line k) (w.0 ∙ ap (λ (k : Line). wrote_line k) l) in
     let o = w.2 ∙ ap (λ (k : Line). empty_packet k a.channel ++ drop (length (empty_packet k a.channel)) a.out.now) l in
-    (λ t. result_with (write_says (n t)) (b t) store (o t)) ∙ sym (result_accepted (call.empty a.line a.channel) a.book store a.out.now v)
+    (λ t. result_with (write_says (Ok (n t))) (b t) store (o t)) ∙ sym (result_accepted (call.empty a.line a.channel) a.book store a.out.now v)

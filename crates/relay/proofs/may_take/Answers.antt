@@ -1,5 +1,6 @@
 use mathlib.Core.Path.{sym, ◌∙◌}
 use Rattle.ground.specs.Refusal.{verdict}
+use Rattle.ground.proofs.Settled.{handed_on}
 use Rattle.ground.proofs.Verdicts.{verdict_on, verdict_stop}
 use Rattle.sending.specs.Sending.{take_tests}
 use Rattle.relay.specs.RelayTests.{relay_channel_tests}
@@ -9,25 +10,25 @@ use Rattle.relay.proofs.may_take.Goals as goal
 
 pub may_take-requires : goal.may_take-requires
 may_take-requires c =
-    rw c.sending-side.ensures (sending_ordered c.args.l c.requires c.args.channel (sym c.channel_verdict-earlier.ensures ∙ c.in-Pass.is))
+    rw c.sending.ensures (sending_ordered c.args.l c.requires c.args.channel (sym c.channel_verdict.ensures ∙ c.in_ok-channel_verdict.was))
 
-pub returns-in-Refuse : goal.returns-in-Refuse
+pub returns-in_err-channel_verdict : goal.returns-in_err-channel_verdict
 unfolding take_call_tests
-returns-in-Refuse c =
+returns-in_err-channel_verdict c =
     let l = c.args.l in
-    sym (verdict_stop (relay_channel_tests l c.args.channel) _ (sym c.channel_verdict-earlier.ensures ∙ c.in-Refuse.is))
+    handed_on c.from_residual.result c.from_residual.ensures.1 ∙ sym (verdict_stop (relay_channel_tests l c.args.channel) _ (sym c.channel_verdict.ensures ∙ c.in_err-channel_verdict.was))
 
-pub returns-then-n-largest : goal.returns-then-n-largest
+pub returns : goal.returns
 unfolding take_call_tests
-returns-then-n-largest c =
+returns c =
     let a = c.args in
-    let fits = rw c.send_largest-largest.ensures at c.if-n-largest.true in
-    let e = verdict_on (relay_channel_tests a.l a.channel) _ (sym c.channel_verdict-earlier.ensures ∙ c.in-Pass.is) in
-    c.may_take.ensures ∙ (λ i. verdict (take_tests (c.send_window-window.ensures i) (c.sending-side.ensures i))) ∙ sym (e ∙ simp fits)
+    let fits = rw c.send_largest-largest.ensures at c.if-not-n-largest.false in
+    let e = verdict_on (relay_channel_tests a.l a.channel) _ (sym c.channel_verdict.ensures ∙ c.in_ok-channel_verdict.was) in
+    c.may_take.ensures ∙ (λ i. verdict (take_tests (c.send_window.ensures i) (c.sending.ensures i))) ∙ sym (e ∙ simp fits)
 
-pub returns-else-n-largest : goal.returns-else-n-largest
+pub returns-then-not-n-largest : goal.returns-then-not-n-largest
 unfolding take_call_tests
-returns-else-n-largest c =
+returns-then-not-n-largest c =
     let a = c.args in
-    let unfit = rw c.send_largest-largest.ensures at c.if-n-largest.false in
-    sym (verdict_on (relay_channel_tests a.l a.channel) _ (sym c.channel_verdict-earlier.ensures ∙ c.in-Pass.is) ∙ simp unfit)
+    let unfit = rw c.send_largest-largest.ensures at c.if-not-n-largest.true in
+    sym (verdict_on (relay_channel_tests a.l a.channel) _ (sym c.channel_verdict.ensures ∙ c.in_ok-channel_verdict.was) ∙ simp unfit)

@@ -1,14 +1,15 @@
-use Rattle.calls.proofs.Results.{mode_refused, mode_does}
+use mathlib.Core.Path.{refl, ap}
+use Rattle.mode.specs.Says.{ask_says}
 use Rattle.mode.specs.Acts.{ask_outcome}
 use Rattle.mode.specs.Acts as act
-use mathlib.Core.Path.{ap}
+use Rattle.signals.proofs.Moves.{stops_at, goes_by}
 use Rattle.signals.proofs.ask.Goals as goal
 
-pub returns-in-Refuse : goal.returns-in-Refuse
-returns-in-Refuse c = let a = c.args in mode_refused a.book a.line (act.ask a.mode a.time) c.open_line_verdict-verdict.ensures c.in-Refuse.is
+pub returns-in_err-open_line_verdict : goal.returns-in_err-open_line_verdict
+returns-in_err-open_line_verdict c = let a = c.args in stops_at ask_says (λ r. refl) a.book a.line (act.ask a.mode a.time) c.open_line_verdict.ensures c.from_residual.result c.from_residual.ensures.1 c.in_err-open_line_verdict.was
 
-pub returns-in-Pass : goal.returns-in-Pass
-returns-in-Pass c =
+pub returns : goal.returns
+returns c =
     let a = c.args in
-    mode_does a.book a.line (act.ask a.mode a.time) c.open_line_verdict-verdict.ensures c.in-Pass.is c.line-l.ensures
-    (ap ask_outcome c.ask-asked.ensures.value) c.stepped-stepped.ensures c.with_line-next.ensures
+    goes_by ask_says (λ r. refl) a.book a.line (act.ask a.mode a.time) c.open_line_verdict.ensures c.in_ok-open_line_verdict.was c.ask.result c.line.ensures
+    (ap ask_outcome c.ask.ensures.value) c.stepped.ensures

@@ -1,11 +1,18 @@
-use mathlib.Core.Bool.{◌&&◌}
-use lib.Dec.{eqb}
+use native.Mathlib.Omega.{arith}
+use Rattle.std.proofs.lemmas.Grind.{common_steps}
 use Rattle.field.proofs.Laws.{top_of, low_of}
 use Rattle.slip.specs.Slip.{form_fits}
 use Rattle.slip.proofs.form_fits.Goals as goal
 
-pub returns : goal.returns
+pub returns-then-a-eq1 : goal.returns-then-a-eq1
 unfolding form_fits
-returns c =
-    let s = c.args.s.now in
-    λ i. eqb (top_of s 0 4 28 c.long_at-a.ensures i) 1 && eqb (low_of s 64 10 22 c.long_at-c.ensures i) 0
+returns-then-a-eq1 c =
+    let form = top_of c.args.s.now 0 4 28 c.long_at-a.ensures in
+    let zeros = low_of c.args.s.now 64 10 22 c.long_at-c.ensures in
+    grind (arith, common_steps)
+
+pub returns-else-a-eq1 : goal.returns-else-a-eq1
+unfolding form_fits
+returns-else-a-eq1 c =
+    let form = top_of c.args.s.now 0 4 28 c.long_at-a.ensures in
+    grind (arith, common_steps)

@@ -1,6 +1,7 @@
 use Rattle.writing.specs.Write.{header_length_for, empty_tests}
 use Rattle.line.specs.declared.Line.{Line}
 use Rattle.relay.specs.RelayTests.{relay_line_tests}
+use Rattle.ground.proofs.Settled.{handed_on}
 use Rattle.ground.proofs.Verdicts.{verdict_on, verdict_stop}
 use Rattle.ground.specs.declared.Refusal.TheVariants.{CHANNEL, ROOM}
 use Rattle.ground.specs.Refusal.{Test, must}
@@ -16,16 +17,16 @@ rest l channel space = must (leb channel 2) CHANNEL ∷ must (leb (header_length
 
 pub returns-then-channel-gt2 : goal.returns-then-channel-gt2
 unfolding empty_tests
-returns-then-channel-gt2 c = sym (verdict_on (relay_line_tests c.args.l) (rest c.args.l c.args.channel c.args.space) (sym c.relay_verdict-earlier.ensures ∙ c.in-Pass.is) ∙ simp (lt-leb _ _ c.if-channel-gt2.true))
+returns-then-channel-gt2 c = sym (verdict_on (relay_line_tests c.args.l) (rest c.args.l c.args.channel c.args.space) (sym c.relay_verdict.ensures ∙ c.in_ok-relay_verdict.was) ∙ simp (lt-leb _ _ c.if-channel-gt2.true))
 
-pub returns-in-Refuse : goal.returns-in-Refuse
+pub returns-in_err-relay_verdict : goal.returns-in_err-relay_verdict
 unfolding empty_tests
-returns-in-Refuse c = sym (verdict_stop (relay_line_tests c.args.l) (rest c.args.l c.args.channel c.args.space) (sym c.relay_verdict-earlier.ensures ∙ c.in-Refuse.is))
+returns-in_err-relay_verdict c = handed_on c.from_residual.result c.from_residual.ensures.1 ∙ sym (verdict_stop (relay_line_tests c.args.l) (rest c.args.l c.args.channel c.args.space) (sym c.relay_verdict.ensures ∙ c.in_err-relay_verdict.was))
 
-pub returns-then-header_length-space : goal.returns-then-header_length-space
+pub returns : goal.returns
 unfolding empty_tests
-returns-then-header_length-space c = sym (verdict_on (relay_line_tests c.args.l) (rest c.args.l c.args.channel c.args.space) (sym c.relay_verdict-earlier.ensures ∙ c.in-Pass.is) ∙ simp (le-leb _ _ c.if-channel-gt2.false, ← c.header_length.ensures, le-leb _ _ c.if-header_length-space.true))
+returns c = sym (verdict_on (relay_line_tests c.args.l) (rest c.args.l c.args.channel c.args.space) (sym c.relay_verdict.ensures ∙ c.in_ok-relay_verdict.was) ∙ simp (le-leb _ _ c.if-channel-gt2.false, ← c.header_length.ensures, le-leb _ _ c.if-space-header_length.false))
 
-pub returns-else-header_length-space : goal.returns-else-header_length-space
+pub returns-then-space-header_length : goal.returns-then-space-header_length
 unfolding empty_tests
-returns-else-header_length-space c = sym (verdict_on (relay_line_tests c.args.l) (rest c.args.l c.args.channel c.args.space) (sym c.relay_verdict-earlier.ensures ∙ c.in-Pass.is) ∙ simp (le-leb _ _ c.if-channel-gt2.false, ← c.header_length.ensures, lt-leb _ _ c.if-header_length-space.false))
+returns-then-space-header_length c = sym (verdict_on (relay_line_tests c.args.l) (rest c.args.l c.args.channel c.args.space) (sym c.relay_verdict.ensures ∙ c.in_ok-relay_verdict.was) ∙ simp (le-leb _ _ c.if-channel-gt2.false, ← c.header_length.ensures, lt-leb _ _ c.if-space-header_length.true))

@@ -1,30 +1,26 @@
-use Rattle.book.proofs.Turns.{whose_here, whose_on, whose_end}
-use Rattle.book.specs.Book.{identifier_of, owner_from}
-use lib.ListN.{length}
-use mathlib.Core.Path.{◌≡◌, sym, ◌∙◌}
-use native.Mathlib.Omega.{arith}
-use borrow.Author.Rules.{rules}
+use Rattle.book.proofs.Walks.{owner_placed}
+use Rattle.book.specs.Book.{identifier_of, owner_from, owner_of}
+use Rattle.line.specs.Line.{is_open}
+use Rattle.line.specs.declared.Line.{Line}
+use Rattle.std.proofs.Common.{◌≡◌, ◌&&◌, eqb, sym, ◌∙◌, rules, tests}
+use Rattle.std.proofs.lemmas.Iterator.{YieldsList-from_slice}
+use Rattle.std.proofs.lemmas.Iterator.Adapters.{position_from-zero}
+use Rattle.std.proofs.lemmas.Iterator.Search.{position_from_yields_List}
 use Rattle.book.proofs.Book.owner_of.Goals as goal
+use Rattle.book.proofs.Book.owner_of.Goals.{After-position}
 
-pub returns-then-self-i : goal.returns-then-self-i
+-- the owner is the line at the place that was found
+owner : (c : After-position) → owner_of c.args.self c.args.identifier ≡ c.position.result
 unfolding owner_from
-returns-then-self-i c =
-    let four_lines : length c.args.self.lines ≡ 4 = search rules in
-    let l = c.loop-i in
-    let len = four_lines in
-    sym (whose_here identifier_of c.args.self.lines l.i _ (omega arith) c.args.identifier c.if-self-i.true) ∙ l.invariant.1
-
-pub loop-i-preserved : goal.loop-i-preserved
-loop-i-preserved c =
-    let four_lines : length c.args.self.lines ≡ 4 = search rules in
-    let l = c.loop-i in
-    let len = four_lines in
-    (omega arith, whose_on identifier_of c.args.self.lines l.i _ (omega arith) c.args.identifier c.if-self-i.false ∙ l.invariant.1)
+owner c =
+    let ls = c.args.self.lines in
+    let x = c.args.identifier in
+    let test = λ (l : Line). is_open l && eqb l.identifier x in
+    let place = position_from_yields_List test _ _ c.position.result c.position.ensures.ran (YieldsList-from_slice ls cc) (λ l b q k. search (rules, tests)) ∙ position_from-zero test ls in
+    owner_placed identifier_of x 0 ls ∙ sym place
 
 pub returns : goal.returns
-unfolding owner_from
-returns c =
-    let four_lines : length c.args.self.lines ≡ 4 = search rules in
-    let l = c.loop-i in
-    let len = four_lines in
-    sym (whose_end identifier_of c.args.self.lines l.i (omega arith) c.args.identifier) ∙ l.invariant.1
+returns c = sym (owner (goal.at.returns c).After-position ∙ c.in_ok-i.was)
+
+pub returns-in_err-i : goal.returns-in_err-i
+returns-in_err-i c = c.from_residual.ensures ∙ sym (owner (goal.at.returns-in_err-i c).After-position ∙ c.in_err-i.was)

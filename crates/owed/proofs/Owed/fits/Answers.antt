@@ -1,25 +1,15 @@
-use borrow.Author.Rules.{rules}
-use borrow.Author.Tests.{not-true, not-false}
-use native.Mathlib.Omega.{arith}
-use Prim.Native.Nat.{ℕ, ◌<◌}
-use mathlib.Core.Bool.{true}
-use mathlib.Core.List.{List}
-use mathlib.Core.Path.{◌≡◌, refl, sym, ap, ◌∙◌}
-use lib.ListN.{length, get_or, set, take, replicate, length-set}
-use Rattle.owed.specs.Owed.{all_spans, no_twice, mark_of}
-use Rattle.owed.proofs.Lists.{spans_on, once_on, spans_lost, twice_lost}
-use Rattle.owed.proofs.Marks.{marked_none, marked_on}
+use Rattle.std.proofs.Common.{◌≡◌, ◌<◌, refl, sym, ap, ◌∙◌, true, false, ℕ, List, length, take, get_or, replicate, arith, length-set}
+use Rattle.std.proofs.lemmas.List.{take_all}
+use Rattle.owed.specs.Owed.{member, all_spans, no_twice, mark_of}
+use Rattle.owed.proofs.Lists.{found, spans_on, once_on, spans_lost, twice_lost}
+use Rattle.owed.proofs.Marks.{unmarked_new, marked_none, marked_on}
 use Rattle.owed.proofs.Steps.{owed_fits_lem, fits_many, fits_span, fits_twice}
-use mathlib.Core.Bool.{not}
 use Rattle.owed.proofs.Owed.fits.Goals as goal
+use Rattle.owed.proofs.Owed.fits.Goals.{else-marks-at-via-then-marks-at+else-contains, else-marks-at-via-else-marks-at}
 
 none : (l : List ℕ) → (all_spans (take 0 l) ≡ true) × (no_twice (take 0 l) ≡ true)
 unfolding all_spans no_twice
 none l = (refl, refl)
-
--- the mark is one of them
-within : {k n : ℕ} (word : ℕ) → k ≡ mark_of word → k < 128 → n ≡ 128 → mark_of word < n
-within word e l m = omega arith
 
 pub returns-then-self-gt-MOST : goal.returns-then-self-gt-MOST
 returns-then-self-gt-MOST c = sym (fits_many c.args.self (omega arith))
@@ -32,43 +22,48 @@ returns-then-self-eq0 c =
 
 pub loop-i-init : goal.loop-i-init
 loop-i-init c =
-    let l = c.args.self.numbers in
-    (search rules, refl, (none l).0, (none l).1, marked_none (replicate 128 0) l)
+    let l = c.entries-entries.result.now in
+    record { many = refl; spans = (none l).0; once = (none l).1; marked = marked_none (replicate 128 false) l }
 
 pub returns-then-not-served : goal.returns-then-not-served
 returns-then-not-served c =
-    let o = c.args.self in
-    let l = c.loop-i in
-    let len : length o.numbers ≡ 64 = search rules in
-    sym (fits_span o (spans_lost o.numbers l.i (omega arith) o.count (omega arith)
-    (sym c.served.ensures ∙ not-true _ (ap not c.if-not-served.true))))
+    let l = c.entries-entries.result.now in
+    let lost = spans_lost l c.loop-i.i (omega arith) (sym c.served.ensures ∙ c.if-not-served.true) in
+    sym (fits_span c.args.self (sym (ap all_spans c.entries-entries.ensures) ∙ lost))
 
-pub returns-then-found : goal.returns-then-found
-returns-then-found c =
-    let o = c.args.self in
-    let l = c.loop-i in
-    let len : length o.numbers ≡ 64 = search rules in
-    sym (fits_twice o (twice_lost o.numbers l.i (omega arith) o.count (omega arith) (sym c.found.ensures ∙ c.if-found.true)))
+pub returns-then-contains : goal.returns-then-contains
+returns-then-contains c =
+    let l = c.entries-entries.result.now in
+    let i = c.loop-i.i in
+    let there = found (get_or l i 0) (take i l) _ _ refl c.contains.ensures.value ∙ c.if-contains.true in
+    sym (fits_twice c.args.self (sym (ap no_twice c.entries-entries.ensures) ∙ twice_lost l i (omega arith) there))
 
 pub loop-i-preserved : goal.loop-i-preserved
 loop-i-preserved c =
-    let o = c.args.self in
-    let l = c.loop-i in
-    let m = c.mark-at.ensures in
-    let len : length o.numbers ≡ 64 = search rules in
-    let word : ℕ = get_or o.numbers l.i 0 in (
-      omega arith,
-      length-set l.marks c.mark-at.result 1 ∙ l.invariant.1,
-      spans_on o.numbers l.i (omega arith) l.invariant.2
-          (sym c.served.ensures ∙ not-false _ (ap not c.if-not-served.false)),
-      once_on o.numbers l.i (omega arith) l.invariant.3 (sym c.found.ensures ∙ c.if-found.false),
-      λ x t. ap (λ (k : ℕ). get_or (set l.marks k 1) (mark_of x) 0) m.0
-          ∙ marked_on l.marks o.numbers l.i (omega arith) (within word m.0 m.1 l.invariant.1) l.invariant.4 x t,
-    )
+    let l = c.entries-entries.result.now in
+    let i = c.loop-i.i in
+    let w : ℕ = get_or l i 0 in
+    let before = c.loop-i.invariant in
+    let at : c.mark-at.result ≡ mark_of w = c.mark-at.ensures.0 in
+    let room : mark_of w < length c.loop-i.marks = omega arith in
+    let new : member w (take i l) ≡ false = elim c.else-marks-at.branch [
+      | else-marks-at-via-then-marks-at+else-contains v ↦ found w (take i l) _ _ refl v.contains.ensures.value ∙ v.if-contains.false
+      | else-marks-at-via-else-marks-at v ↦ unmarked_new c.loop-i.marks (take i l) w before.marked (rw at at v.if-marks-at.false)
+    ] in
+    record {
+      many = length-set _ _ _ ∙ before.many;
+      spans = spans_on l i (omega arith) before.spans (sym c.served.ensures ∙ c.if-not-served.false);
+      once = once_on l i (omega arith) before.once new;
+      marked = rw at (marked_on c.loop-i.marks l i (omega arith) room before.marked);
+    }
 
 pub returns : goal.returns
 returns c =
     let o = c.args.self in
     let l = c.loop-i in
-    let e : l.i ≡ o.count = omega arith in
-    sym (owed_fits_lem o (record { few = omega arith; spans = rw e at l.invariant.2; once = rw e at l.invariant.3 }))
+    let e = take_all l.i c.entries-entries.result.now (omega arith) ∙ c.entries-entries.ensures in
+    sym (owed_fits_lem o (record {
+      few = omega arith;
+      spans = sym (ap all_spans e) ∙ l.invariant.spans;
+      once = sym (ap no_twice e) ∙ l.invariant.once;
+    }))

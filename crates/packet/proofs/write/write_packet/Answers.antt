@@ -5,9 +5,9 @@ use Rattle.packet.proofs.write.write_packet.Goals as goal
 pub put_header-n-requires : goal.put_header-n-requires
 put_header-n-requires c =
     let at = c.args in
-    write_room at.h at.a at.payload.now at.largest at.out.now (c.write_verdict.ensures at.payload.now refl) c.in-Pass.is
+    write_room at.h at.a at.payload.now at.largest at.out.now (c.write_verdict.ensures at.payload.now refl) c.in_ok-write_verdict.was
 
-pub returns-in-Pass : goal.returns-in-Pass
-returns-in-Pass c =
+pub returns : goal.returns
+returns c =
     let at = c.args in
-    write_done at.h at.a at.payload.now at.largest at.out.now (c.write_verdict.ensures at.payload.now refl) c.in-Pass.is c.put_header-n.ensures.0 c.put_header-n.ensures.1 c.put_octets.ensures
+    write_done at.h at.a at.payload.now at.largest at.out.now (c.write_verdict.ensures at.payload.now refl) c.in_ok-write_verdict.was c.put_header-n.ensures.0 c.put_header-n.ensures.1 c.put_octets.ensures

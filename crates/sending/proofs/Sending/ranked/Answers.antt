@@ -10,16 +10,16 @@ use Rattle.sending.proofs.Sending.ranked.Goals as goal
 pub place-at-requires : goal.place-at-requires
 place-at-requires c =
     let s = c.args.self in
-    omega (arith, rank_below (mask_of s.unacked) c.args.rank _ (s.taken - s.base) c.requires.masked (sym c.rank-found.ensures ∙ c.in-At.is), c.requires)
+    omega (arith, rank_below (mask_of s.unacked) c.args.rank _ (s.taken - s.base) c.requires.masked (sym c.rank.ensures ∙ c.in_ok-i.was), c.requires)
 
-pub bounds-self-p : goal.bounds-self-p
-bounds-self-p c =
+pub bounds-self-at : goal.bounds-self-at
+bounds-self-at c =
     let s = c.args.self in
-    let k = rank_below (mask_of s.unacked) c.args.rank _ (s.taken - s.base) c.requires.masked (sym c.rank-found.ensures ∙ c.in-At.is) in
+    let k = rank_below (mask_of s.unacked) c.args.rank _ (s.taken - s.base) c.requires.masked (sym c.rank.ensures ∙ c.in_ok-i.was) in
     omega (
       arith,
       c.place-at.ensures,
-      place_lt c.args.window c.args.self.origin c.in-At.i
+      place_lt c.args.window c.args.self.origin c.in_ok-i.i
           c.requires.placed (omega (arith, c.requires)),
       c.requires,
     )
@@ -27,16 +27,16 @@ bounds-self-p c =
 pub overflow_add-result : goal.overflow_add-result
 overflow_add-result c =
     let s = c.args.self in
-    omega (arith, rank_below (mask_of s.unacked) c.args.rank _ (s.taken - s.base) c.requires.masked (sym c.rank-found.ensures ∙ c.in-At.is), c.requires)
+    omega (arith, rank_below (mask_of s.unacked) c.args.rank _ (s.taken - s.base) c.requires.masked (sym c.rank.ensures ∙ c.in_ok-i.was), c.requires)
 
-pub returns-in-At : goal.returns-in-At
+pub returns : goal.returns
 unfolding held_of
-returns-in-At c =
+returns c =
     let s = c.args in
-    rw c.place-at.ensures (ap (held_at s.window s.self) (sym c.in-At.is ∙ c.rank-found.ensures))
+    rw c.place-at.ensures (ap (held_at s.window s.self) (sym c.in_ok-i.was ∙ c.rank.ensures))
 
-pub returns-in-Missing : goal.returns-in-Missing
+pub returns-in_err-i : goal.returns-in_err-i
 unfolding held_of
-returns-in-Missing c =
+returns-in_err-i c =
     let s = c.args in
-    ap (held_at s.window s.self) (sym c.in-Missing.is ∙ c.rank-found.ensures)
+    c.from_residual.ensures ∙ ap (held_at s.window s.self) (sym c.in_err-i.was ∙ c.rank.ensures)
