@@ -96,13 +96,13 @@ all_relaying (word ∷ words) l k = all_relaying words (acked_line l word) (acke
 module _ (l : Line) (channel number : ℕ) where
   -- one that is not stored leaves its side as it was
   pub same_side : with_receiving (owing_line l channel number) channel (receiving_of l channel) ≡ owing_line l channel number
-  same_side = λ i. with_parts (owing_line l channel number) l.modes l.sending1 l.sending2 (first (eqb channel 1) i) (second (eqb channel 1) i) (owing_line l channel number).owed
+  same_side = λ i. with_parts (owing_line l channel number) l.modes l.sending.one l.sending.two (first (eqb channel 1) i) (second (eqb channel 1) i) (owing_line l channel number).owed
     where
-      first : (t : Bool) → pick t (pick t l.receiving1 l.receiving2) l.receiving1 ≡ l.receiving1
+      first : (t : Bool) → pick t (pick t l.receiving.one l.receiving.two) l.receiving.one ≡ l.receiving.one
       first true = refl
       first false = refl
 
-      second : (t : Bool) → pick t l.receiving2 (pick t l.receiving1 l.receiving2) ≡ l.receiving2
+      second : (t : Bool) → pick t l.receiving.two (pick t l.receiving.one l.receiving.two) ≡ l.receiving.two
       second true = refl
       second false = refl
 

@@ -18,8 +18,8 @@ use Rattle.arriving.specs.Effect.{heard_line, acked_line, acked_all, owing_line,
 
 pub record NewsOnly (l m : Line) : Type 0 where
   pub stays : SameSettings l m
-  pub receiving1 : m.receiving1 ≡ l.receiving1
-  pub receiving2 : m.receiving2 ≡ l.receiving2
+  pub receiving1 : m.receiving.one ≡ l.receiving.one
+  pub receiving2 : m.receiving.two ≡ l.receiving.two
   pub owed : m.owed ≡ l.owed
 
 none_news : (l : Line) → NewsOnly l l

@@ -20,7 +20,7 @@ mod seen; // seen.rt: which identifiers were seen
 #[derive(Clone, Copy)]
 pub struct Book {
     pub lines: [Line; 4],
-    // The identifiers that rest, oldest first; what stands after them is not read.
+    // The identifiers that rest, oldest first; what stands after them is not read. An array and its count, because a book has no heap.
     pub resting: [u8; 16],
     // How many rest. At most 16.
     pub rested: u8,

@@ -1,4 +1,6 @@
 // The BREAK body: V.150.1 clause 15.4.6, Table 26, as RULES section 12 serves it. Two octets, read and written.
+// BREAK, CONNECT, slip and packet are each read and written by two lines over a verdict of their own. A trait would have to name their types,
+// tests, octets and answers, and be longer than these lines.
 #![tactic(auto)]
 
 ghost use Rattle.std.specs.Prelude.{◌≡◌, length};
@@ -10,7 +12,8 @@ use ground::Refusal;
 
 #[derive(Clone, Copy)]
 pub struct Break {
-    // The protocol that it came by: 0 LAPM, 1 Annex A of V.42, 2 V.14.
+    // The protocol that it came by: 0 LAPM, 1 Annex A of V.42, 2 V.14. A caller may hand in any number, and others are RANGE, so it is
+    // no enum; nor is the kind.
     pub source: u8,
     // 0 not applicable, 1 destructive and expedited, 2 expedited, 3 neither.
     pub kind: u8,

@@ -70,7 +70,7 @@ writes rests octets l store out = record { values = length octets ∷ []; line =
 
 -- "Closing writes a slip": "messages handed out on channel 1 .. and channel 2", "reason (8: 0 asked, 1 ended by recovery)"
 unfoldable pub slip_of : Line → Slip
-slip_of l = record { identifier = l.identifier; kind = l.kind; count1 = l.receiving1.next; count2 = l.receiving2.next; reason = bit (ended l.modes) }
+slip_of l = record { identifier = l.identifier; kind = l.kind; count1 = l.receiving.one.next; count2 = l.receiving.two.next; reason = bit (ended l.modes) }
 
 -- what each call does to line i, whose record is l and whose part of the store begins at `start`
 unfoldable pub effect : Call → ℕ → Line → ℕ → List ℕ → List ℕ → Effect

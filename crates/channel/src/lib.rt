@@ -36,7 +36,7 @@ impl Channel {
     // The most octets that a message has.
     pub const LARGEST: u16 = 132;
 
-    // The channel of a number: 1, or else 2.
+    // The channel of a number: 1, or else 2. The definitions of lines and sides take any number, so it stays one; others are refused CHANNEL first.
     pub fn of(number: u8) -> Channel
         ensures { result ≡ channel_of number }
     {

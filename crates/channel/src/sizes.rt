@@ -25,6 +25,7 @@ pub fn sizes_fit(
     requires { (origin < window) × (window ≤ widest) × (mask_of set < 2 ^ window) }
     ensures { result ≡ sizes_fit window largest sizes (mask_of set) origin }
 {
+    // By hand, so that nothing past the highest offset is looked at: a `for` over the window was slower where few are held.
     let mut rest = set;
     let mut i = 0;
     while !rest.empty() {

@@ -26,6 +26,7 @@ pub struct Way {
     pub history: u16,
 }
 
+// What a body says. Kinds are numbers and no enums, because a caller may hand in any, and reserved ones are read, or refused RESERVED or RANGE.
 #[derive(Clone, Copy)]
 pub struct Connect {
     // 0 to 30; 31 to 63 are read and never written.
@@ -53,7 +54,7 @@ fn compression_at(s: &[u8]) -> u8
     (field::word_at(s, 0) >> 4 & 15) as u8
 }
 
-// One direction's numbers: 0 is transmit, and 1, receive, stands after it field by field.
+// One direction's numbers: 0 is transmit, and 1, receive, stands after it field by field, so it is a number that is added to a place.
 fn way_at(s: &[u8], way: usize) -> Way
     requires { way < 2 }
     ensures { result ≡ way_at s.now way }
@@ -199,7 +200,7 @@ fn put(out: &mut [u8], c: Connect) -> usize
         c.receive.history,
     ];
     let n = size_of(c.compression);
-    field::put_words(out, &words[..n / 2]);
+    field::put_words(out, &words[..n >> 1]);
     n
 }
 

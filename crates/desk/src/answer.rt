@@ -1,5 +1,5 @@
-// What a line is answered. A call says it as a reply, which knows no words; the words are written here, and the reason why a line is
-// no call goes to standard error.
+// What a line is answered. A call says it by values; the words are written here, and the reason why a line is no call goes to standard
+// error.
 use crate::bodies;
 use breaks::Break;
 use connect::Connect;
@@ -9,19 +9,13 @@ use slip::Slip;
 use std::io;
 use words::{Fault, Hexadecimal, Numbers, Refused};
 
+// What an accepted call is answered.
 #[derive(Clone, Copy)]
 pub enum Reply {
-    // The line is no call.
-    NoCall(Fault),
-    Refused(Refusal),
     // Accepted, with no more to say.
     Done,
-    // Nothing is due.
-    Quiet,
-    // An audio indication is due, at that try.
-    Audio(u8),
-    // The line has ended.
-    Ended,
+    // What is due.
+    Due(Due),
     // The local mode.
     Mode(u8),
     // The local mode, and whether a P' notice is to be sent.
@@ -36,20 +30,24 @@ pub enum Reply {
     Slip(Slip),
 }
 
-// Of a tick.
-pub fn of_tick(due: Due) -> Reply {
-    match due {
-        Due::Quiet => Reply::Quiet,
-        Due::Audio(attempt) => Reply::Audio(attempt),
-        Due::Ended => Reply::Ended,
+// Why a line has no such answer.
+#[derive(Clone, Copy)]
+pub enum Denied {
+    // The line is no call.
+    NoCall(Fault),
+    // The library refused the call.
+    Refused(Refusal),
+}
+
+impl From<Fault> for Denied {
+    fn from(fault: Fault) -> Denied {
+        Denied::NoCall(fault)
     }
 }
 
-// Of a body or a slip written.
-pub fn of_writing(wrote: Result<usize, Refusal>) -> Reply {
-    match wrote {
-        Ok(n) => Reply::Octets(n),
-        Err(r) => Reply::Refused(r),
+impl From<Refusal> for Denied {
+    fn from(refusal: Refusal) -> Denied {
+        Denied::Refused(refusal)
     }
 }
 
@@ -70,18 +68,20 @@ fn notice(due: bool) -> &'static str {
     if due { "notice" } else { "quiet" }
 }
 
-// Answers the line of a number, and says to standard error why it is no call.
-pub fn say(rt: &(impl Print + Eprint), reply: Reply, number: u64, octets: &[u8]) -> io::Result<()> {
+// Says what is due.
+fn say_due(rt: &impl Print, due: Due) -> io::Result<()> {
+    match due {
+        Due::Quiet => rt.println("ok quiet"),
+        Due::Audio(attempt) => println!(rt; "ok audio {attempt}"),
+        Due::Ended => rt.println("ok ended"),
+    }
+}
+
+// Says what an accepted call is answered.
+fn say_reply(rt: &impl Print, reply: Reply, octets: &[u8]) -> io::Result<()> {
     match reply {
-        Reply::NoCall(fault) => {
-            println!(rt; "? {number}")?;
-            eprintln!(rt; "line {number}: {fault}")
-        }
-        Reply::Refused(refusal) => rt.println(Refused(refusal)),
         Reply::Done => rt.println("ok"),
-        Reply::Quiet => rt.println("ok quiet"),
-        Reply::Audio(attempt) => println!(rt; "ok audio {attempt}"),
-        Reply::Ended => rt.println("ok ended"),
+        Reply::Due(due) => say_due(rt, due),
         Reply::Mode(mode) => println!(rt; "ok {}", letter(mode)),
         Reply::Heard(heard) => println!(rt; "ok {} {}", letter(heard.local), notice(heard.notice)),
         Reply::Holds(count) => println!(rt; "ok {count}"),
@@ -89,5 +89,22 @@ pub fn say(rt: &(impl Print + Eprint), reply: Reply, number: u64, octets: &[u8])
         Reply::Connect(body) => rt.println(Numbers(&bodies::of_connect(body))),
         Reply::Break(body) => rt.println(Numbers(&bodies::of_break(body))),
         Reply::Slip(slip) => rt.println(Numbers(&bodies::of_slip(slip))),
+    }
+}
+
+// Answers the line of a number, and says to standard error why it is no call.
+pub fn say(
+    rt: &(impl Print + Eprint),
+    answer: Result<Reply, Denied>,
+    number: u64,
+    octets: &[u8],
+) -> io::Result<()> {
+    match answer {
+        Ok(reply) => say_reply(rt, reply, octets),
+        Err(Denied::Refused(refusal)) => rt.println(Refused(refusal)),
+        Err(Denied::NoCall(fault)) => {
+            println!(rt; "? {number}")?;
+            eprintln!(rt; "line {number}: {fault}")
+        }
     }
 }

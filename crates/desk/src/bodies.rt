@@ -1,35 +1,35 @@
-// CONNECT and BREAK bodies and slips, which need no book: read, written, and answered.
-use crate::answer;
+// CONNECT and BREAK bodies and slips, which need no book: read, written, and their values.
 use crate::answer::Reply;
-use crate::parse::{BREAK, CONNECT};
+use crate::parse::BodyCall;
 use breaks::Break;
 use connect::{Connect, Way};
+use ground::Refusal;
 use slip::Slip;
-use words::{Arguments, Fault};
+use words::Arguments;
 
 // The 18 values of a CONNECT.
 pub fn of_connect(c: Connect) -> [u64; 18] {
     let transmit = c.transmit;
     let receive = c.receive;
     [
-        c.modulation as u64,
-        c.direction as u64,
-        c.compression as u64,
-        c.correction as u64,
-        transmit.rate as u64,
-        receive.rate as u64,
-        c.dlci as u64,
-        c.octet as u64,
-        c.rawbit as u64,
-        c.frame as u64,
-        c.charstat as u64,
-        c.chardyn as u64,
-        transmit.dictionary as u64,
-        receive.dictionary as u64,
-        transmit.string as u64,
-        receive.string as u64,
-        transmit.history as u64,
-        receive.history as u64,
+        c.modulation.into(),
+        c.direction.into(),
+        c.compression.into(),
+        c.correction.into(),
+        transmit.rate.into(),
+        receive.rate.into(),
+        c.dlci.into(),
+        c.octet.into(),
+        c.rawbit.into(),
+        c.frame.into(),
+        c.charstat.into(),
+        c.chardyn.into(),
+        transmit.dictionary.into(),
+        receive.dictionary.into(),
+        transmit.string.into(),
+        receive.string.into(),
+        transmit.history.into(),
+        receive.history.into(),
     ]
 }
 
@@ -63,88 +63,45 @@ fn connect_of(a: Arguments) -> Connect {
     }
 }
 
-// `connect read OCTETS`
-fn read_connect(body: &[u8]) -> Reply {
-    match connect::read(body) {
-        Ok(c) => Reply::Connect(c),
-        Err(refusal) => Reply::Refused(refusal),
-    }
-}
-
-// `connect write V1 .. V18 [SPACE]`
-fn write_connect(a: Arguments, octets: &mut [u8]) -> Reply {
-    let space = a.space(18, octets.len());
-    answer::of_writing(connect::write(&mut octets[0..space], connect_of(a)))
-}
-
 // The three values of a BREAK.
 pub fn of_break(b: Break) -> [u64; 3] {
-    [b.source as u64, b.kind as u64, b.lasts as u64]
+    [b.source.into(), b.kind.into(), b.lasts.into()]
 }
 
-// `break read OCTETS`
-fn read_break(body: &[u8]) -> Reply {
-    match breaks::read(body) {
-        Ok(b) => Reply::Break(b),
-        Err(refusal) => Reply::Refused(refusal),
-    }
-}
-
-// `break write SOURCE TYPE LENGTH [SPACE]`
-fn write_break(a: Arguments, octets: &mut [u8]) -> Reply {
-    let value = Break {
+// The BREAK of three values.
+fn break_of(a: Arguments) -> Break {
+    Break {
         source: a.octet(0),
         kind: a.octet(1),
         lasts: a.octet(2),
-    };
-    let space = a.space(3, octets.len());
-    answer::of_writing(breaks::write(&mut octets[0..space], value))
+    }
 }
 
 // The five values of a slip.
 pub fn of_slip(s: Slip) -> [u64; 5] {
     [
-        s.identifier as u64,
-        s.kind as u64,
-        s.count1 as u64,
-        s.count2 as u64,
-        s.reason as u64,
+        s.identifier.into(),
+        s.kind.into(),
+        s.count1.into(),
+        s.count2.into(),
+        s.reason.into(),
     ]
 }
 
-// `slip read OCTETS`
-fn read_slip(body: &[u8]) -> Reply {
-    match slip::read(body) {
-        Ok(s) => Reply::Slip(s),
-        Err(refusal) => Reply::Refused(refusal),
-    }
-}
-
-// Reads octets as a body or a slip.
-fn read(place: u8, octets: &[u8]) -> Reply {
-    match place {
-        CONNECT => read_connect(octets),
-        BREAK => read_break(octets),
-        _ => read_slip(octets),
-    }
-}
-
-// Writes a body.
-fn write(place: u8, a: Arguments, octets: &mut [u8]) -> Reply {
-    if place == CONNECT {
-        return write_connect(a, octets);
-    }
-    write_break(a, octets)
-}
-
-// Makes a call whose words are good, on the body that a line names.
-pub fn make(place: u8, a: Arguments, octets: &mut [u8]) -> Reply {
-    let size = a.size;
-    if a.call == 1 {
-        return write(place, a, octets);
-    }
-    if octets.len() < size {
-        return Reply::NoCall(Fault::TooLong);
-    }
-    read(place, &octets[0..size])
+// Makes a call whose words are good.
+pub fn make(call: BodyCall, a: Arguments, octets: &mut [u8]) -> Result<Reply, Refusal> {
+    let most = octets.len();
+    Ok(match call {
+        BodyCall::ReadConnect => Reply::Connect(connect::read(a.octets(octets))?),
+        BodyCall::ReadBreak => Reply::Break(breaks::read(a.octets(octets))?),
+        BodyCall::ReadSlip => Reply::Slip(slip::read(a.octets(octets))?),
+        BodyCall::WriteConnect => {
+            let out = &mut octets[..a.space(18, most)];
+            Reply::Octets(connect::write(out, connect_of(a))?)
+        }
+        BodyCall::WriteBreak => {
+            let out = &mut octets[..a.space(3, most)];
+            Reply::Octets(breaks::write(out, break_of(a))?)
+        }
+    })
 }

@@ -1,180 +1,143 @@
-// The calls at one gateway. Each is made, and leaves the gateway with what it answered.
+// The calls at one gateway. Each leaves its book as the call says, and a refused one as it was.
+use crate::Seat;
 use crate::answer::Reply;
-use crate::parse::Request;
-use crate::{Seat, answer, spoil};
+use crate::parse::Call;
+use book::Book;
+use ground::Refusal;
 use line::Settings;
 use words::Arguments;
 
-// `open LINE ID TYPE VBD RELAY TIME`
-fn open(seat: Seat, a: Arguments) -> Seat {
-    let settings = Settings {
-        identifier: a.octet(1),
-        kind: a.octet(2),
-        vbd: a.flag(3),
-        relay: a.flag(4),
-    };
-    match gateway::open(seat.book, a.octet(0), settings, a.long(5)) {
-        Ok(after) => seat.with(after.book, Reply::Done),
-        Err(refusal) => seat.refused(refusal),
+impl Seat {
+    // `fresh`: the store is zeros too, and lent whole.
+    fn renew(&mut self) -> Reply {
+        self.book = Book::fresh();
+        self.store.fill(0);
+        self.lent = Book::STORE;
+        Reply::Done
     }
-}
 
-// `close LINE [SPACE]`
-fn close(seat: Seat, a: Arguments, octets: &mut [u8]) -> Seat {
-    let space = a.space(1, octets.len());
-    match gateway::close(seat.book, a.octet(0), &mut octets[0..space]) {
-        Ok(after) => seat.with(after.book, Reply::Octets(after.answer)),
-        Err(refusal) => seat.refused(refusal),
+    // `lend COUNT`
+    fn lend(&mut self, a: Arguments) -> Reply {
+        self.lent = a.space(0, Book::STORE);
+        Reply::Done
     }
-}
 
-// `hear LINE MODE TIME`
-fn hear(seat: Seat, a: Arguments) -> Seat {
-    match gateway::hear(seat.book, a.octet(0), a.octet(1), a.long(2)) {
-        Ok(after) => seat.with(after.book, Reply::Heard(after.answer)),
-        Err(refusal) => seat.refused(refusal),
+    // `open LINE ID TYPE VBD RELAY TIME`
+    fn open(&mut self, a: Arguments) -> Result<Reply, Refusal> {
+        let settings = Settings {
+            identifier: a.octet(1),
+            kind: a.octet(2),
+            vbd: a.flag(3),
+            relay: a.flag(4),
+        };
+        let after = gateway::open(self.book, a.octet(0), settings, a.long(5))?;
+        self.book = after.book;
+        Ok(Reply::Done)
     }
-}
 
-// `ask LINE MODE TIME`
-fn ask(seat: Seat, a: Arguments) -> Seat {
-    match gateway::ask(seat.book, a.octet(0), a.octet(1), a.long(2)) {
-        Ok(after) => seat.with(after.book, Reply::Mode(after.answer)),
-        Err(refusal) => seat.refused(refusal),
+    // `close LINE [SPACE]`
+    fn close(&mut self, a: Arguments, octets: &mut [u8]) -> Result<Reply, Refusal> {
+        let space = a.space(1, octets.len());
+        let after = gateway::close(self.book, a.octet(0), &mut octets[..space])?;
+        self.book = after.book;
+        Ok(Reply::Octets(after.answer))
     }
-}
 
-// `tick LINE TIME`
-fn tick(seat: Seat, a: Arguments) -> Seat {
-    match gateway::tick(seat.book, a.octet(0), a.long(1)) {
-        Ok(after) => seat.with(after.book, answer::of_tick(after.answer)),
-        Err(refusal) => seat.refused(refusal),
+    // `hear LINE MODE TIME`
+    fn hear(&mut self, a: Arguments) -> Result<Reply, Refusal> {
+        let after = gateway::hear(self.book, a.octet(0), a.octet(1), a.long(2))?;
+        self.book = after.book;
+        Ok(Reply::Heard(after.answer))
     }
-}
 
-// `held LINE CHANNEL`
-fn held(seat: Seat, a: Arguments) -> Seat {
-    match gateway::held(seat.book, a.octet(0), a.octet(1)) {
-        Ok(count) => seat.with(seat.book, Reply::Holds(count)),
-        Err(refusal) => seat.refused(refusal),
+    // `ask LINE MODE TIME`
+    fn ask(&mut self, a: Arguments) -> Result<Reply, Refusal> {
+        let after = gateway::ask(self.book, a.octet(0), a.octet(1), a.long(2))?;
+        self.book = after.book;
+        Ok(Reply::Mode(after.answer))
     }
-}
 
-// `empty LINE CHANNEL [SPACE]`
-fn empty(seat: Seat, a: Arguments, octets: &mut [u8]) -> Seat {
-    let space = a.space(2, octets.len());
-    match gateway::empty(seat.book, a.octet(0), a.octet(1), &mut octets[0..space]) {
-        Ok(after) => seat.with(after.book, Reply::Octets(after.answer)),
-        Err(refusal) => seat.refused(refusal),
+    // `tick LINE TIME`
+    fn tick(&mut self, a: Arguments) -> Result<Reply, Refusal> {
+        let after = gateway::tick(self.book, a.octet(0), a.long(1))?;
+        self.book = after.book;
+        Ok(Reply::Due(after.answer))
     }
-}
 
-// `take LINE CHANNEL OCTETS`
-fn take(seat: Seat, a: Arguments, store: &mut [u8], message: &[u8]) -> Seat {
-    match gateway::take(seat.book, store, a.octet(0), a.octet(1), message) {
-        Ok(after) => seat.with(after.book, Reply::Done),
-        Err(refusal) => seat.refused(refusal),
+    // `held LINE CHANNEL`
+    fn held(&self, a: Arguments) -> Result<Reply, Refusal> {
+        Ok(Reply::Holds(gateway::held(self.book, a.octet(0), a.octet(1))?))
     }
-}
 
-// `send LINE CHANNEL RANK [SPACE]`
-fn send(seat: Seat, a: Arguments, store: &[u8], octets: &mut [u8]) -> Seat {
-    let space = a.space(3, octets.len());
-    match gateway::send(
-        seat.book,
-        store,
-        a.octet(0),
-        a.octet(1),
-        a.octet(2),
-        &mut octets[0..space],
-    ) {
-        Ok(after) => seat.with(after.book, Reply::Octets(after.answer)),
-        Err(refusal) => seat.refused(refusal),
+    // `empty LINE CHANNEL [SPACE]`
+    fn empty(&mut self, a: Arguments, octets: &mut [u8]) -> Result<Reply, Refusal> {
+        let space = a.space(2, octets.len());
+        let after = gateway::empty(self.book, a.octet(0), a.octet(1), &mut octets[..space])?;
+        self.book = after.book;
+        Ok(Reply::Octets(after.answer))
     }
-}
 
-// `arrive OCTETS`
-fn arrive(seat: Seat, store: &mut [u8], packet: &[u8]) -> Seat {
-    match gateway::arrive(seat.book, store, packet) {
-        Ok(after) => seat.with(after.book, Reply::Done),
-        Err(refusal) => seat.refused(refusal),
+    // `take LINE CHANNEL OCTETS`
+    fn take(&mut self, a: Arguments, message: &[u8]) -> Result<Reply, Refusal> {
+        let book = self.book;
+        let after = gateway::take(book, self.lent_mut(), a.octet(0), a.octet(1), message)?;
+        self.book = after.book;
+        Ok(Reply::Done)
     }
-}
 
-// `out LINE CHANNEL [SPACE]`
-fn hand_out(seat: Seat, a: Arguments, store: &[u8], octets: &mut [u8]) -> Seat {
-    let space = a.space(2, octets.len());
-    match gateway::hand_out(
-        seat.book,
-        store,
-        a.octet(0),
-        a.octet(1),
-        &mut octets[0..space],
-    ) {
-        Ok(after) => seat.with(after.book, Reply::Octets(after.answer)),
-        Err(refusal) => seat.refused(refusal),
+    // `send LINE CHANNEL RANK [SPACE]`
+    fn send(&mut self, a: Arguments, octets: &mut [u8]) -> Result<Reply, Refusal> {
+        let space = a.space(3, octets.len());
+        let after = gateway::send(
+            self.book,
+            self.lent(),
+            a.octet(0),
+            a.octet(1),
+            a.octet(2),
+            &mut octets[..space],
+        )?;
+        self.book = after.book;
+        Ok(Reply::Octets(after.answer))
     }
-}
 
-// The calls that no store is lent to.
-fn without_store(seat: Seat, a: Arguments, octets: &mut [u8]) -> Seat {
-    let call = a.call;
-    match call {
-        3 => open(seat, a),
-        4 => hear(seat, a),
-        5 => ask(seat, a),
-        6 => tick(seat, a),
-        7 => held(seat, a),
-        8 => close(seat, a, octets),
-        _ => empty(seat, a, octets),
+    // `arrive OCTETS`
+    fn arrive(&mut self, packet: &[u8]) -> Result<Reply, Refusal> {
+        let book = self.book;
+        let after = gateway::arrive(book, self.lent_mut(), packet)?;
+        self.book = after.book;
+        Ok(Reply::Done)
     }
-}
 
-// The calls that the store is lent to, as far as it is lent.
-fn with_store(seat: Seat, a: Arguments, store: &mut [u8], octets: &mut [u8]) -> Seat {
-    let size = a.size;
-    if octets.len() < size {
-        return seat;
+    // `out LINE CHANNEL [SPACE]`
+    fn hand_out(&mut self, a: Arguments, octets: &mut [u8]) -> Result<Reply, Refusal> {
+        let space = a.space(2, octets.len());
+        let after = gateway::hand_out(
+            self.book,
+            self.lent(),
+            a.octet(0),
+            a.octet(1),
+            &mut octets[..space],
+        )?;
+        self.book = after.book;
+        Ok(Reply::Octets(after.answer))
     }
-    let call = a.call;
-    match call {
-        10 => take(seat, a, store, &octets[0..size]),
-        11 => send(seat, a, store, octets),
-        12 => arrive(seat, store, &octets[0..size]),
-        _ => hand_out(seat, a, store, octets),
-    }
-}
 
-// `fresh`: the store is zeros too.
-fn fresh(store: &mut [u8]) -> Seat {
-    store.fill(0);
-    Seat::fresh()
-}
-
-// `lend COUNT`
-fn lend(seat: Seat, a: Arguments) -> Seat {
-    Seat {
-        lent: a.long(0) as usize,
-        reply: Reply::Done,
-        ..seat
-    }
-}
-
-// Makes a call whose words are good.
-pub fn make(seat: Seat, request: Request, store: &mut [u8], octets: &mut [u8]) -> Seat {
-    let a = request.a;
-    if let Some(line) = request.spoils {
-        return spoil::spoil(seat, line, a, store, octets);
-    }
-    let lent = seat.lent;
-    if store.len() < lent {
-        return seat;
-    }
-    let call = a.call;
-    match call {
-        0 => fresh(store),
-        1 => lend(seat, a),
-        3..=9 => without_store(seat, a, octets),
-        _ => with_store(seat, a, &mut store[0..lent], octets),
+    // Makes a call whose words are good.
+    pub fn make(&mut self, call: Call, a: Arguments, octets: &mut [u8]) -> Result<Reply, Refusal> {
+        match call {
+            Call::Fresh => Ok(self.renew()),
+            Call::Lend => Ok(self.lend(a)),
+            Call::Open => self.open(a),
+            Call::Hear => self.hear(a),
+            Call::Ask => self.ask(a),
+            Call::Tick => self.tick(a),
+            Call::Held => self.held(a),
+            Call::Close => self.close(a, octets),
+            Call::Empty => self.empty(a, octets),
+            Call::Take => self.take(a, a.octets(octets)),
+            Call::Send => self.send(a, octets),
+            Call::Arrive => self.arrive(a.octets(octets)),
+            Call::HandOut => self.hand_out(a, octets),
+        }
     }
 }

@@ -3,220 +3,131 @@
 // says what a line may be.
 #![tactic(auto)]
 
-ghost use Rattle.std.specs.Prelude.{◌<◌, ◌≤◌};
-
-use answer::Reply;
+use answer::{Denied, Reply};
 use book::Book;
-use ground::Refusal;
-use parse::Request;
+use parse::{Request, Which};
 use script::Script;
+use std::alloc::{AllocError, Global};
 use std::io;
-use std::io::Input;
+use std::io::{BufReader, Input, Read};
 use words::Fault;
 
 mod answer; // answer.rt: the words of an answer
 mod bodies; // bodies.rt: CONNECT, BREAK and slips
 mod commands; // commands.rt: the calls at a gateway
-mod record; // record.rt: `spoil`, one part of a line's record
 mod parse; // parse.rt: what a line asks for
+mod record; // record.rt: `spoil`, one part of a line's record
 mod script; // script.rt: the script's octets, cut into lines
 mod sides; // sides.rt: `spoil`, one part of a channel's sides
 mod spoil; // spoil.rt: `spoil`, the part of a book that it names
 
-// A gateway: its book, how many octets of its store are lent, and what its last call is answered.
-#[derive(Clone, Copy)]
+// A gateway: its book, its store, and how many octets of the store are lent.
+#[derive(Drop)]
 pub struct Seat {
     pub book: Book,
+    pub store: Vec<u8>,
     pub lent: usize,
-    pub reply: Reply,
-}
-
-// The books of the gateways A and B, how much of their stores is lent, the line that is being read, and what the last one is
-// answered.
-#[derive(Clone, Copy)]
-struct Desk {
-    books: [Book; 2],
-    lent: [usize; 2],
-    script: Script,
-    reply: Reply,
 }
 
 impl Seat {
     // A fresh book, and the store lent whole.
-    pub fn fresh() -> Seat {
-        let book = gateway::fresh();
-        Seat {
-            book,
-            lent: 42240,
-            reply: Reply::Done,
-        }
+    fn fresh(alloc: Global) -> Result<Seat, AllocError> {
+        Ok(Seat {
+            book: Book::fresh(),
+            store: vec![in alloc; 0; Book::STORE]?,
+            lent: Book::STORE,
+        })
     }
 
-    // After a call.
-    pub fn with(self, book: Book, reply: Reply) -> Seat {
-        Seat {
-            book,
-            reply,
-            lent: self.lent,
-        }
+    // The octets of the store that are lent.
+    pub fn lent(&self) -> &[u8] {
+        &self.store[..self.lent.min(self.store.len())]
     }
 
-    // After a call that was refused: the book is as it was.
-    pub fn refused(self, refusal: Refusal) -> Seat {
-        Seat {
-            reply: Reply::Refused(refusal),
-            ..self
-        }
+    // The same, to be written.
+    pub fn lent_mut(&mut self) -> &mut [u8] {
+        let count = self.lent.min(self.store.len());
+        &mut self.store[..count]
     }
+}
 
-    // After a line that is no call.
-    pub fn no_call(self, fault: Fault) -> Seat {
-        Seat {
-            reply: Reply::NoCall(fault),
-            ..self
-        }
-    }
+// The gateways A and B.
+#[derive(Drop)]
+struct Desk {
+    a: Seat,
+    b: Seat,
 }
 
 impl Desk {
-    fn fresh() -> Desk {
-        let book = gateway::fresh();
-        let script = Script::fresh();
-        Desk {
-            books: [book, book],
-            lent: [42240, 42240],
-            script,
-            reply: Reply::Done,
+    fn fresh(alloc: Global) -> Result<Desk, AllocError> {
+        Ok(Desk {
+            a: Seat::fresh(alloc)?,
+            b: Seat::fresh(alloc)?,
+        })
+    }
+
+    // The gateway that is named.
+    fn seat(&mut self, which: Which) -> &mut Seat {
+        match which {
+            Which::A => &mut self.a,
+            Which::B => &mut self.b,
         }
     }
 
-    // The gateway of a number.
-    fn seat(self, which: usize) -> Seat
-        requires { which < 2 }
-    {
-        let book = self.books[which];
-        Seat {
-            book,
-            lent: self.lent[which],
-            reply: Reply::Done,
+    // Makes the call that a line asks for, if it asks for one.
+    fn heed(&mut self, line: &[u8], octets: &mut [u8]) -> Result<Reply, Denied> {
+        if script::LONGEST < line.len() {
+            return Err(Denied::NoCall(Fault::TooLong));
         }
+        Ok(match parse::read(line, octets)? {
+            Request::At(which, call, a) => self.seat(which).make(call, a, octets)?,
+            Request::SpoilBook(which, part, a) => self.seat(which).spoil(part, a),
+            Request::SpoilLine(which, i, part, a) => {
+                self.seat(which).spoil_line(i, part, a, octets)?
+            }
+            Request::Body(call, a) => bodies::make(call, a, octets)?,
+        })
     }
 
-    // After a call at the gateway of a number.
-    fn with(self, which: usize, seat: Seat) -> Desk
-        requires { which < 2 }
-    {
-        let book = seat.book;
-        let reply = seat.reply;
-        let mut next = self;
-        next.books[which] = book;
-        next.lent[which] = seat.lent;
-        next.answered(reply)
+    // A line of the script that has ended is answered, unless it is blank or a comment.
+    fn answer(
+        &mut self,
+        rt: &(impl Print + Eprint),
+        script: &Script,
+        octets: &mut [u8],
+    ) -> io::Result<()> {
+        if let Some(line) = script.call() {
+            let answer = self.heed(line, octets);
+            answer::say(rt, answer, script.number, octets)?;
+        }
+        Ok(())
     }
-
-    // After a line that names no gateway.
-    fn answered(self, reply: Reply) -> Desk {
-        Desk { reply, ..self }
-    }
-}
-
-// Where the store of a gateway begins in the stores: half of them is A's and half is B's.
-fn store_at(which: usize, half: usize) -> usize
-    ensures { result ≤ half }
-{
-    if which == 0 {
-        return 0;
-    }
-    half
-}
-
-// Makes a call at a gateway.
-fn at_gateway(desk: Desk, request: Request, stores: &mut [u8], octets: &mut [u8]) -> Desk {
-    let which = request.place as usize;
-    if 1 < which {
-        return desk;
-    }
-    let half = stores.len() / 2;
-    let from = store_at(which, half);
-    let seat = commands::make(
-        desk.seat(which),
-        request,
-        &mut stores[from..from + half],
-        octets,
-    );
-    desk.with(which, seat)
-}
-
-// Makes a call.
-fn make(desk: Desk, request: Request, stores: &mut [u8], octets: &mut [u8]) -> Desk {
-    if request.place < parse::CONNECT {
-        return at_gateway(desk, request, stores, octets);
-    }
-    desk.answered(bodies::make(request.place, request.a, octets))
-}
-
-// Makes the call that a line asks for, if it asks for one.
-fn heed(desk: Desk, line: &[u8], stores: &mut [u8], octets: &mut [u8]) -> Desk {
-    match parse::read(desk.script, line, octets) {
-        Ok(request) => make(desk, request, stores, octets),
-        Err(fault) => desk.answered(Reply::NoCall(fault)),
-    }
-}
-
-// A line of the script is answered, once it has ended and unless it is blank or a comment.
-fn serve(
-    rt: &(impl Print + Eprint),
-    desk: Desk,
-    line: &[u8],
-    stores: &mut [u8],
-    octets: &mut [u8],
-) -> io::Result<Desk> {
-    let script = desk.script;
-    if !script.answered() {
-        return Ok(desk);
-    }
-    let next = heed(desk, line, stores, octets);
-    let reply = next.reply;
-    answer::say(rt, reply, script.number, octets)?;
-    Ok(next)
-}
-
-// More of the script is read, up to the end of a line, and that line is answered.
-fn advance(
-    rt: &(impl Input + Print + Eprint),
-    desk: Desk,
-    buffer: &mut [u8],
-    line: &mut [u8],
-    stores: &mut [u8],
-    octets: &mut [u8],
-) -> io::Result<Desk> {
-    let script = desk.script.advance(rt, buffer, line)?;
-    serve(rt, Desk { script, ..desk }, line, stores, octets)
 }
 
 // Reads the script to its end, and answers it line by line.
 fn run(
     rt: &(impl Input + Print + Eprint),
-    buffer: &mut [u8],
-    line: &mut [u8],
-    stores: &mut [u8],
+    alloc: Global,
+    desk: &mut Desk,
     octets: &mut [u8],
 ) -> io::Result<()> {
-    let mut desk = Desk::fresh();
-    let mut turns = u64::MAX;
-    while 0 < turns {
-        desk = advance(rt, desk, buffer, line, stores, octets)?;
-        let script = desk.script;
-        turns = script.turns_left(turns);
+    let mut script = Script::fresh(alloc);
+    for octet in BufReader::new(alloc, rt.reader())?.bytes() {
+        match octet? {
+            b'\n' => {
+                desk.answer(rt, &script, octets)?;
+                script.next_line();
+            }
+            octet => script.read(octet)?,
+        }
     }
-    Ok(())
+    script.settle()?;
+    desk.answer(rt, &script, octets)
 }
 
 fn main(rt: HostRuntime) -> io::Result<()> {
-    let mut buffer = [0u8; 4096];
-    let mut line = [0u8; 2000];
-    let mut stores = [0u8; 84480];
+    let mut desk = Desk::fresh(rt.alloc())?;
     let mut octets = [0u8; 600];
-    run(&rt, &mut buffer, &mut line, &mut stores, &mut octets)?;
+    run(&rt, rt.alloc(), &mut desk, &mut octets)?;
     rt.write_all(b"end\n")
 }

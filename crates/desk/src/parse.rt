@@ -1,25 +1,103 @@
 // What a line of the script asks for, read before any book is looked at: tables say which words each call asks for.
-use crate::script::Script;
+use book::Book;
 use words::{Arguments, Entry, Fault, Kind};
 
-// A call that a line names.
-#[derive(Clone, Copy)]
-pub struct Request {
-    // Where: at A (0) or B (1), or of a CONNECT (2), a BREAK (3) or a slip (4).
-    pub place: u8,
-    // The call is `spoil`: then the words are those of the part that it sets, in the line of that number; 0 where it is a part of the book.
-    pub spoils: Option<u8>,
-    // Its words. Its number is its place in the table.
-    pub a: Arguments,
+// One of the two gateways.
+#[derive(Clone, Copy, Debug, PartialEq, Eq)]
+pub enum Which {
+    A,
+    B,
 }
 
-// The places that the first word of a line names.
-pub const CONNECT: u8 = 2;
+// A call at a gateway.
+#[derive(Clone, Copy, Debug, PartialEq, Eq)]
+pub enum Call {
+    Fresh,
+    Lend,
+    Open,
+    Hear,
+    Ask,
+    Tick,
+    Held,
+    Close,
+    Empty,
+    Take,
+    Send,
+    Arrive,
+    HandOut,
+}
 
-pub const BREAK: u8 = 3;
+// A part that `spoil` sets, of a book or of a line of it.
+#[derive(Clone, Copy, Debug, PartialEq, Eq)]
+enum Part {
+    OfBook(BookPart),
+    OfLine(LinePart),
+}
 
-// How many parts are parts of a book and not of a line.
-pub const OF_BOOK: usize = 2;
+// A part of a book besides its lines.
+#[derive(Clone, Copy, Debug, PartialEq, Eq)]
+pub enum BookPart {
+    Rested,
+    Resting,
+}
+
+// A part of a line's record.
+#[derive(Clone, Copy, Debug, PartialEq, Eq)]
+pub enum LinePart {
+    Opened,
+    Identifier,
+    Kind,
+    Owing,
+    Owed,
+    Vbd,
+    Relay,
+    Left,
+    Local,
+    Remote,
+    Tries,
+    Since,
+    Tried,
+    Last,
+    Sending(SendingPart),
+    Receiving(ReceivingPart),
+}
+
+// A part of a channel's sending side.
+#[derive(Clone, Copy, Debug, PartialEq, Eq)]
+pub enum SendingPart {
+    Taken,
+    Base,
+    Dropped,
+    Held,
+}
+
+// A part of a channel's receiving side.
+#[derive(Clone, Copy, Debug, PartialEq, Eq)]
+pub enum ReceivingPart {
+    Next,
+    Missing,
+    Stored,
+}
+
+// A call that needs no book.
+#[derive(Clone, Copy, Debug, PartialEq, Eq)]
+pub enum BodyCall {
+    ReadConnect,
+    WriteConnect,
+    ReadBreak,
+    WriteBreak,
+    ReadSlip,
+}
+
+// What a line asks for, with the words of it.
+#[derive(Clone, Copy)]
+pub enum Request {
+    At(Which, Call, Arguments),
+    SpoilBook(Which, BookPart, Arguments),
+    // The number is the line's.
+    SpoilLine(Which, u8, LinePart, Arguments),
+    Body(BodyCall, Arguments),
+}
 
 // What a word may be: a flag, or a number of so many bits.
 const FLAG: Kind = Kind::UpTo(1);
@@ -32,55 +110,104 @@ const BITS32: Kind = Kind::UpTo(0xffff_ffff);
 
 const BITS64: Kind = Kind::UpTo(u64::MAX);
 
-// The calls at a gateway. The words of `spoil` are those of the part that it sets.
-static CALLS: [Entry; 14] = [
-    Entry(b"fresh", &[]),
-    Entry(b"lend", &[Kind::UpTo(42240)]),
-    Entry(b"spoil", &[]),
-    Entry(b"open", &[BITS8, BITS8, BITS8, FLAG, FLAG, BITS64]),
-    Entry(b"hear", &[BITS8, Kind::Mode, BITS64]),
-    Entry(b"ask", &[BITS8, Kind::Mode, BITS64]),
-    Entry(b"tick", &[BITS8, BITS64]),
-    Entry(b"held", &[BITS8, BITS8]),
-    Entry(b"close", &[BITS8, Kind::Space]),
-    Entry(b"empty", &[BITS8, BITS8, Kind::Space]),
-    Entry(b"take", &[BITS8, BITS8, Kind::Octets]),
-    Entry(b"send", &[BITS8, BITS8, BITS8, Kind::Space]),
-    Entry(b"arrive", &[Kind::Octets]),
-    Entry(b"out", &[BITS8, BITS8, Kind::Space]),
+// The calls at a gateway, besides `spoil`, whose words are those of the part that it sets.
+static CALLS: [Entry<Call>; 13] = [
+    Entry(b"fresh", Call::Fresh, &[]),
+    Entry(b"lend", Call::Lend, &[Kind::UpTo(Book::STORE as u64)]),
+    Entry(
+        b"open",
+        Call::Open,
+        &[BITS8, BITS8, BITS8, FLAG, FLAG, BITS64],
+    ),
+    Entry(b"hear", Call::Hear, &[BITS8, Kind::Mode, BITS64]),
+    Entry(b"ask", Call::Ask, &[BITS8, Kind::Mode, BITS64]),
+    Entry(b"tick", Call::Tick, &[BITS8, BITS64]),
+    Entry(b"held", Call::Held, &[BITS8, BITS8]),
+    Entry(b"close", Call::Close, &[BITS8, Kind::Space]),
+    Entry(b"empty", Call::Empty, &[BITS8, BITS8, Kind::Space]),
+    Entry(b"take", Call::Take, &[BITS8, BITS8, Kind::Octets]),
+    Entry(b"send", Call::Send, &[BITS8, BITS8, BITS8, Kind::Space]),
+    Entry(b"arrive", Call::Arrive, &[Kind::Octets]),
+    Entry(b"out", Call::HandOut, &[BITS8, BITS8, Kind::Space]),
 ];
 
 // The parts that `spoil` sets, those of the book first.
-static PARTS: [Entry; 23] = [
-    Entry(b"rested", &[BITS8]),
-    Entry(b"resting", &[Kind::UpTo(15), BITS8]),
-    Entry(b"opened", &[BITS8]),
-    Entry(b"id", &[BITS8]),
-    Entry(b"type", &[BITS8]),
-    Entry(b"owing", &[BITS8]),
-    Entry(b"owed", &[Kind::UpTo(63), Kind::UpTo(3), Kind::UpTo(16383)]),
-    Entry(b"vbd", &[BITS8]),
-    Entry(b"relay", &[BITS8]),
-    Entry(b"left", &[BITS8]),
-    Entry(b"local", &[Kind::ModeOrNumber]),
-    Entry(b"remote", &[Kind::ModeOrNumber]),
-    Entry(b"try", &[BITS8]),
-    Entry(b"since", &[BITS64]),
-    Entry(b"tried", &[BITS64]),
-    Entry(b"last", &[BITS64]),
-    Entry(b"taken", &[Kind::Channel, BITS32]),
-    Entry(b"base", &[Kind::Channel, BITS32]),
-    Entry(b"dropped", &[Kind::Channel, BITS32]),
-    Entry(b"held", &[Kind::Channel, BITS32, Kind::Octets]),
-    Entry(b"next", &[Kind::Channel, BITS32]),
-    Entry(b"missing", &[Kind::Channel, BITS32]),
-    Entry(b"stored", &[Kind::Channel, BITS32, Kind::Octets]),
+static PARTS: [Entry<Part>; 23] = [
+    Entry(b"rested", Part::OfBook(BookPart::Rested), &[BITS8]),
+    Entry(
+        b"resting",
+        Part::OfBook(BookPart::Resting),
+        &[Kind::UpTo(15), BITS8],
+    ),
+    Entry(b"opened", Part::OfLine(LinePart::Opened), &[BITS8]),
+    Entry(b"id", Part::OfLine(LinePart::Identifier), &[BITS8]),
+    Entry(b"type", Part::OfLine(LinePart::Kind), &[BITS8]),
+    Entry(b"owing", Part::OfLine(LinePart::Owing), &[BITS8]),
+    Entry(
+        b"owed",
+        Part::OfLine(LinePart::Owed),
+        &[Kind::UpTo(63), Kind::UpTo(3), Kind::UpTo(16383)],
+    ),
+    Entry(b"vbd", Part::OfLine(LinePart::Vbd), &[BITS8]),
+    Entry(b"relay", Part::OfLine(LinePart::Relay), &[BITS8]),
+    Entry(b"left", Part::OfLine(LinePart::Left), &[BITS8]),
+    Entry(
+        b"local",
+        Part::OfLine(LinePart::Local),
+        &[Kind::ModeOrNumber],
+    ),
+    Entry(
+        b"remote",
+        Part::OfLine(LinePart::Remote),
+        &[Kind::ModeOrNumber],
+    ),
+    Entry(b"try", Part::OfLine(LinePart::Tries), &[BITS8]),
+    Entry(b"since", Part::OfLine(LinePart::Since), &[BITS64]),
+    Entry(b"tried", Part::OfLine(LinePart::Tried), &[BITS64]),
+    Entry(b"last", Part::OfLine(LinePart::Last), &[BITS64]),
+    Entry(
+        b"taken",
+        Part::OfLine(LinePart::Sending(SendingPart::Taken)),
+        &[Kind::Channel, BITS32],
+    ),
+    Entry(
+        b"base",
+        Part::OfLine(LinePart::Sending(SendingPart::Base)),
+        &[Kind::Channel, BITS32],
+    ),
+    Entry(
+        b"dropped",
+        Part::OfLine(LinePart::Sending(SendingPart::Dropped)),
+        &[Kind::Channel, BITS32],
+    ),
+    Entry(
+        b"held",
+        Part::OfLine(LinePart::Sending(SendingPart::Held)),
+        &[Kind::Channel, BITS32, Kind::Octets],
+    ),
+    Entry(
+        b"next",
+        Part::OfLine(LinePart::Receiving(ReceivingPart::Next)),
+        &[Kind::Channel, BITS32],
+    ),
+    Entry(
+        b"missing",
+        Part::OfLine(LinePart::Receiving(ReceivingPart::Missing)),
+        &[Kind::Channel, BITS32],
+    ),
+    Entry(
+        b"stored",
+        Part::OfLine(LinePart::Receiving(ReceivingPart::Stored)),
+        &[Kind::Channel, BITS32, Kind::Octets],
+    ),
 ];
 
-static OF_CONNECT: [Entry; 2] = [
-    Entry(b"read", &[Kind::Octets]),
+// What is done with a CONNECT, with a BREAK and with a slip.
+static OF_CONNECT: [Entry<BodyCall>; 2] = [
+    Entry(b"read", BodyCall::ReadConnect, &[Kind::Octets]),
     Entry(
         b"write",
+        BodyCall::WriteConnect,
         &[
             BITS8,
             BITS8,
@@ -105,22 +232,16 @@ static OF_CONNECT: [Entry; 2] = [
     ),
 ];
 
-static OF_BREAK: [Entry; 2] = [
-    Entry(b"read", &[Kind::Octets]),
-    Entry(b"write", &[BITS8, BITS8, BITS8, Kind::Space]),
+static OF_BREAK: [Entry<BodyCall>; 2] = [
+    Entry(b"read", BodyCall::ReadBreak, &[Kind::Octets]),
+    Entry(
+        b"write",
+        BodyCall::WriteBreak,
+        &[BITS8, BITS8, BITS8, Kind::Space],
+    ),
 ];
 
-static OF_SLIP: [Entry; 1] = [Entry(b"read", &[Kind::Octets])];
-
-// The calls at a place.
-fn calls(place: u8) -> &'static [Entry] {
-    match place {
-        CONNECT => &OF_CONNECT,
-        BREAK => &OF_BREAK,
-        4 => &OF_SLIP,
-        _ => &CALLS,
-    }
-}
+static OF_SLIP: [Entry<BodyCall>; 1] = [Entry(b"read", BodyCall::ReadSlip, &[Kind::Octets])];
 
 // The line that a word numbers, 0 to 3.
 fn line_of(word: &[u8]) -> Option<u8> {
@@ -131,50 +252,43 @@ fn line_of(word: &[u8]) -> Option<u8> {
 }
 
 // What `spoil` asks for at a gateway: a part of a line behind the line's number, or a part of the book.
-fn spoiling(place: u8, said: &[u8], octets: &mut [u8]) -> Result<Request, Fault> {
+fn spoiling(which: Which, said: &[u8], octets: &mut [u8]) -> Result<Request, Fault> {
     let (first, behind) = words::split_word(said).ok_or(Fault::Unknown)?;
     let line = line_of(first);
-    let part = if line.is_some() { behind } else { said };
-    let a = words::call(part, &PARTS, octets)?;
-    if line.is_some() == (a.call < OF_BOOK) {
-        return Err(Fault::Unknown);
+    let named = if line.is_some() { behind } else { said };
+    let (part, a) = words::call(named, &PARTS, octets)?;
+    match (line, part) {
+        (Some(line), Part::OfLine(part)) => Ok(Request::SpoilLine(which, line, part, a)),
+        (None, Part::OfBook(part)) => Ok(Request::SpoilBook(which, part, a)),
+        _ => Err(Fault::Unknown),
     }
-    Ok(Request {
-        place,
-        spoils: Some(line.unwrap_or(0)),
-        a,
-    })
 }
 
-// What the words behind a place ask for there.
-fn asked_at(place: u8, said: &[u8], octets: &mut [u8]) -> Result<Request, Fault> {
+// What the words behind a gateway ask for there.
+fn at_gateway(which: Which, said: &[u8], octets: &mut [u8]) -> Result<Request, Fault> {
     let (name, behind) = words::split_word(said).ok_or(Fault::Unknown)?;
-    if place < CONNECT && matches!(name, b"spoil") {
-        return spoiling(place, behind, octets);
+    if matches!(name, b"spoil") {
+        return spoiling(which, behind, octets);
     }
-    Ok(Request {
-        place,
-        spoils: None,
-        a: words::call(said, calls(place), octets)?,
-    })
+    let (call, a) = words::call(said, &CALLS, octets)?;
+    Ok(Request::At(which, call, a))
 }
 
-// The place that the first word of a line names.
-fn place_of(name: &[u8]) -> Option<u8> {
+// What the words behind `connect`, `break` or `slip` ask for.
+fn of_body(table: &[Entry<BodyCall>], said: &[u8], octets: &mut [u8]) -> Result<Request, Fault> {
+    let (call, a) = words::call(said, table, octets)?;
+    Ok(Request::Body(call, a))
+}
+
+// What a line of the script asks for.
+pub fn read(line: &[u8], octets: &mut [u8]) -> Result<Request, Fault> {
+    let (name, behind) = words::split_word(line).ok_or(Fault::Unknown)?;
     match name {
-        b"A" => Some(0),
-        b"B" => Some(1),
-        b"connect" => Some(CONNECT),
-        b"break" => Some(BREAK),
-        b"slip" => Some(4),
-        _ => None,
+        b"A" => at_gateway(Which::A, behind, octets),
+        b"B" => at_gateway(Which::B, behind, octets),
+        b"connect" => of_body(&OF_CONNECT, behind, octets),
+        b"break" => of_body(&OF_BREAK, behind, octets),
+        b"slip" => of_body(&OF_SLIP, behind, octets),
+        _ => Err(Fault::Unknown),
     }
-}
-
-// What the line of a script asks for, which lies at the start of `line`.
-pub fn read(script: Script, line: &[u8], octets: &mut [u8]) -> Result<Request, Fault> {
-    let said = line.get(..script.count).ok_or(Fault::TooLong)?;
-    let (name, behind) = words::split_word(said).ok_or(Fault::Unknown)?;
-    let place = place_of(name).ok_or(Fault::Unknown)?;
-    asked_at(place, behind, octets)
 }

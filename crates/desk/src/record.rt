@@ -1,58 +1,35 @@
-// What `spoil` sets in a line's record besides the sides of its channels, by the part's place in the table of `spoil`.
+// What `spoil` sets in a line's record.
+use crate::parse::LinePart;
+use crate::sides;
 use line::Line;
-use mode::Modes;
 use owed::Owed;
 use words::Arguments;
 
-// The modes with one part set.
-fn with_mode(modes: Modes, a: Arguments) -> Modes {
-    let mut next = modes;
-    let call = a.call;
-    match call {
-        7 => next.vbd = a.octet(0),
-        8 => next.relay = a.octet(0),
-        9 => next.left = a.octet(0),
-        10 => next.local = a.octet(0),
-        11 => next.remote = a.octet(0),
-        12 => next.tries = a.octet(0),
-        13 => next.since = a.long(0),
-        14 => next.tried = a.long(0),
-        _ => next.last = a.long(0),
+// Sets the entry of a list at a place.
+fn set_entry(list: &mut Owed, a: Arguments) {
+    if let Some(number) = list.numbers.get_mut(a.long(0) as usize) {
+        *number = owed::word(a.octet(1) & 3, a.short(2) & 16383);
     }
-    next
 }
 
-// The list with an entry at a place.
-fn with_entry(list: Owed, i: usize, channel: u8, number: u16) -> Owed {
-    let mut next = list;
-    if 64 <= i {
-        return list;
+// Sets one part of the record.
+pub fn set(line: &mut Line, part: LinePart, a: Arguments) {
+    match part {
+        LinePart::Opened => line.opened = a.octet(0),
+        LinePart::Identifier => line.identifier = a.octet(0),
+        LinePart::Kind => line.kind = a.octet(0),
+        LinePart::Owing => line.owed.count = a.octet(0),
+        LinePart::Owed => set_entry(&mut line.owed, a),
+        LinePart::Vbd => line.modes.vbd = a.octet(0),
+        LinePart::Relay => line.modes.relay = a.octet(0),
+        LinePart::Left => line.modes.left = a.octet(0),
+        LinePart::Local => line.modes.local = a.octet(0),
+        LinePart::Remote => line.modes.remote = a.octet(0),
+        LinePart::Tries => line.modes.tries = a.octet(0),
+        LinePart::Since => line.modes.since = a.long(0),
+        LinePart::Tried => line.modes.tried = a.long(0),
+        LinePart::Last => line.modes.last = a.long(0),
+        LinePart::Sending(part) => sides::set_sending(line, part, a),
+        LinePart::Receiving(part) => sides::set_receiving(line, part, a),
     }
-    next.numbers[i] = owed::word(channel & 3, number & 16383);
-    next
-}
-
-// The list with another count, or with an entry set.
-fn with_owed(list: Owed, a: Arguments) -> Owed {
-    if a.call == 5 {
-        return Owed {
-            count: a.octet(0),
-            ..list
-        };
-    }
-    with_entry(list, a.long(0) as usize, a.octet(1), a.short(2))
-}
-
-// The record with one part set.
-pub fn set(l: Line, a: Arguments) -> Line {
-    let mut next = l;
-    let call = a.call;
-    match call {
-        2 => next.opened = a.octet(0),
-        3 => next.identifier = a.octet(0),
-        4 => next.kind = a.octet(0),
-        5 | 6 => next.owed = with_owed(l.owed, a),
-        _ => next.modes = with_mode(l.modes, a),
-    }
-    next
 }

@@ -1,67 +1,48 @@
 // `spoil` sets one part of a book to a value, unchecked, so that each clause of BOOK can be tried. It is answered `ok`, or is no
 // call where the value cannot be said. It writes the whole store, whatever is lent.
 use crate::answer::Reply;
-use crate::parse::OF_BOOK;
+use crate::parse::{BookPart, LinePart};
 use crate::{Seat, record, sides};
-use book::Book;
-use line::Line;
+use channel::Channel;
 use words::{Arguments, Fault};
 
-// `rested N` and `resting I ID`
-fn with_resting(book: Book, a: Arguments) -> Book {
-    let mut next = book;
-    if a.call == 0 {
-        next.rested = a.octet(0);
-        return next;
+impl Seat {
+    // Sets a part of the book.
+    pub fn spoil(&mut self, part: BookPart, a: Arguments) -> Reply {
+        match part {
+            BookPart::Rested => self.book.rested = a.octet(0),
+            BookPart::Resting => {
+                if let Some(identifier) = self.book.resting.get_mut(a.long(0) as usize) {
+                    *identifier = a.octet(1);
+                }
+            }
+        }
+        Reply::Done
     }
-    let i = a.long(0) as usize;
-    if i < 16 {
-        next.resting[i] = a.octet(1);
-    }
-    next
-}
 
-// A line's record with the part that is named set.
-fn with_part(l: Line, a: Arguments) -> Line {
-    if a.call < sides::FIRST {
-        return record::set(l, a);
+    // Sets a part of line i.
+    pub fn spoil_line(
+        &mut self,
+        i: u8,
+        part: LinePart,
+        a: Arguments,
+        octets: &[u8],
+    ) -> Result<Reply, Fault> {
+        if 3 < i {
+            return Err(Fault::OutOfReach);
+        }
+        let start = self.book.part_start(i);
+        let line = &mut self.book.lines[usize::from(i)];
+        if !sides::in_reach(line, part, a) {
+            return Err(Fault::OutOfReach);
+        }
+        if let Some(slot) = sides::slot(line, part, a) {
+            let message = a.octets(octets).iter().take(Channel::LARGEST as usize);
+            for (place, octet) in self.store.iter_mut().skip(start).skip(slot).zip(message) {
+                *place = *octet;
+            }
+        }
+        record::set(line, part, a);
+        Ok(Reply::Done)
     }
-    sides::set(l, a)
-}
-
-// The book with the part that is named set, in line i if it is a part of a line.
-fn spoilt(book: Book, i: u8, a: Arguments) -> Book {
-    if a.call < OF_BOOK {
-        return with_resting(book, a);
-    }
-    if 3 < i {
-        return book;
-    }
-    let l = book.line(i);
-    book.with_line(i, with_part(l, a))
-}
-
-// The oldest message that can be named in line i: h, or R.
-fn oldest(book: Book, i: u8, a: Arguments) -> u32 {
-    if 3 < i {
-        return 0;
-    }
-    sides::oldest(book.line(i), a)
-}
-
-// Where the slot of the message that is named begins in the store.
-fn slot_at(book: Book, i: u8, a: Arguments) -> usize {
-    if 3 < i {
-        return 0;
-    }
-    book.part_start(i) + sides::slot(book.line(i), a)
-}
-
-// Sets the part that is named.
-pub fn spoil(seat: Seat, i: u8, a: Arguments, store: &mut [u8], octets: &[u8]) -> Seat {
-    if !sides::in_reach(oldest(seat.book, i, a), a) {
-        return seat.no_call(Fault::OutOfReach);
-    }
-    sides::put(a, slot_at(seat.book, i, a), store, octets);
-    seat.with(spoilt(seat.book, i, a), Reply::Done)
 }

@@ -43,8 +43,8 @@ slip_fits_lem l o f =
     let s = each (leb l.identifier 127 ∷ leb 96 l.kind ∷ leb l.kind 127 ∷ []) k.settings in
     let i : l.identifier ≤ 127 = leb-true _ _ s.0 in
     let t : l.kind ≤ 127 = leb-true _ _ s.1.1.0 in
-    together (ltb l.identifier 128 ∷ leb 96 l.kind ∷ ltb l.kind 128 ∷ ltb l.receiving1.next 16777216 ∷ ltb l.receiving2.next 16777216 ∷ leb (bit (ended l.modes)) 1 ∷ [])
-    (lt-ltb l.identifier 128 (omega arith), (s.1.0, (lt-ltb l.kind 128 (omega arith), (counted (receive_window l 1) (receive_largest l) l.receiving1 (lit≤ tt) k.receiving1, (counted (receive_window l 2) (receive_largest l) l.receiving2 (lit≤ tt) k.receiving2, (flag (ended l.modes), tt))))))
+    together (ltb l.identifier 128 ∷ leb 96 l.kind ∷ ltb l.kind 128 ∷ ltb l.receiving.one.next 16777216 ∷ ltb l.receiving.two.next 16777216 ∷ leb (bit (ended l.modes)) 1 ∷ [])
+    (lt-ltb l.identifier 128 (omega arith), (s.1.0, (lt-ltb l.kind 128 (omega arith), (counted (receive_window l 1) (receive_largest l) l.receiving.one (lit≤ tt) k.receiving1, (counted (receive_window l 2) (receive_largest l) l.receiving.two (lit≤ tt) k.receiving2, (flag (ended l.modes), tt))))))
 
 -- so closing writes it
 pub slip_passes : (l : Line) (space : ℕ) → line_fits l ≡ true → verdict (close_tests l space) ≡ Ok tt → verdict (write_tests (slip_of l) space) ≡ Ok tt

@@ -69,8 +69,8 @@ fn slip_of(l: Line) -> Slip
     Slip {
         identifier: l.identifier,
         kind: l.kind,
-        count1: l.receiving1.next,
-        count2: l.receiving2.next,
+        count1: l.receiving.one.next,
+        count2: l.receiving.two.next,
         reason,
     }
 }

@@ -1,51 +1,42 @@
 -- How a packet's verdict is put together: its head, its line, and what the line asks of it.
 -- Assumes nothing.
 use Prim.Native.Nat.{ℕ, ◌<◌}
-use mathlib.Core.Path.{◌≡◌, refl, sym, ap, ◌∙◌}
+use mathlib.Core.Path.{◌≡◌, sym, ap, ◌∙◌}
 use mathlib.Core.List.{List, [], ◌∷◌}
 use native.Mathlib.Omega.{arith}
 use lib.ListN.{length}
-use Rattle.std.specs.Prelude.{Some, None, Result, Ok, Err, is_some}
+use Rattle.std.specs.Prelude.{Option, Some, None, Result, Ok, Err, is_some}
 use Rattle.ground.specs.Refusal.{Verdict, Test, must, verdict, settle}
 use Rattle.ground.specs.declared.Refusal.{Refusal}
 use Rattle.ground.specs.declared.Refusal.TheVariants.{NOLINE}
-use Rattle.ground.proofs.Settled.{verdict_of_answer}
 use Rattle.ground.proofs.Verdicts.{verdict_on, verdict_stop}
 use Rattle.packet.specs.Read.{head_at, acks_at, head_tests, head_read}
 use Rattle.packet.specs.declared.Acks.{Acks}
 use Rattle.packet.specs.declared.Head.{Head}
 use Rattle.arriving.specs.Arrive.{arrive_tests}
-use Rattle.book.specs.Book.{line_of}
+use Rattle.book.specs.Book.{line_of, owner_of}
 use Rattle.book.specs.declared.Book.{Book}
 use Rattle.book.proofs.OneOwner.{whose_at}
 use Rattle.calls.specs.Order.{packet_line, owner_line}
 use Rattle.calls.specs.Stages.{address_tests, arrival_tests}
+use Rattle.calls.proofs.Accepted.{answer_refuses, answer_passes, answer_is}
 use Rattle.incoming.specs.Reading.{arriving_at}
 use Rattle.incoming.specs.declared.Arriving.{Arriving}
 
-abbrev why_head : Result Head Refusal → Verdict
-why_head (Ok h) = Ok tt
-why_head (Err r) = Err r
-
-abbrev head_in : Head → Result Head Refusal → Head
-head_in d (Ok h) = h
-head_in d (Err r) = d
-
 -- what a head's reading says of its tests
 module _ (s : List ℕ) {r : Result Head Refusal} (e : r ≡ head_read s) where
-  pub head_verdict : verdict (head_tests s) ≡ why_head r
-  head_verdict = verdict_of_answer why_head (verdict (head_tests s)) e (λ x. refl) refl
-
   pub head_passes : {h : Head} → r ≡ Ok h → verdict (head_tests s) ≡ Ok tt
-  head_passes p = head_verdict ∙ ap why_head p
+  head_passes p = answer_passes (head_tests s) (head_at s) e p
 
   pub head_refuses : {x : Refusal} → r ≡ Err x → verdict (head_tests s) ≡ Err x
-  head_refuses p = head_verdict ∙ ap why_head p
+  head_refuses p = answer_refuses (head_tests s) (head_at s) e p
 
   pub head_is : {h : Head} → r ≡ Ok h → h ≡ head_at s
-  head_is {h} p =
-      let q : head_read s ≡ Ok (head_at s) = ap (λ (v : Verdict). settle v Err (Ok (head_at s))) (head_passes p) in
-      ap (head_in (head_at s)) (sym p ∙ e ∙ q)
+  head_is p = answer_is (head_tests s) (head_at s) e p
+
+  -- whoever has the head's identifier has the packet
+  pub owner_is : (b : Book) {h : Head} {o : Option ℕ} → r ≡ Ok h → o ≡ owner_of b h.identifier → packet_line b s ≡ o
+  owner_is b p found = ap (λ (k : Head). owner_of b k.identifier) (sym (head_is p)) ∙ sym found
 
 -- what a line's tests settle on
 abbrev pub arrives_at : ℕ → List ℕ → Verdict → Result Arriving Refusal

@@ -8,11 +8,11 @@ use native.Mathlib.Omega.{arith}
 use lib.ListN.{length, drop, length-drop, length-take}
 use borrow.Author.Tests.{leb-true}
 use Rattle.std.specs.Prelude.{Option, Some, None, Result, Ok, Err, is_some}
-use Rattle.ground.specs.Refusal.{Verdict, must, verdict, settle}
+use Rattle.ground.specs.Answer.{answered}
+use Rattle.ground.specs.Refusal.{must, verdict}
 use Rattle.ground.specs.declared.Refusal.{Refusal}
 use Rattle.ground.specs.declared.Refusal.TheVariants.{NOLINE}
 use Rattle.ground.proofs.Verdicts.{passed, pass_both}
-use Rattle.ground.proofs.Settled.{verdict_of_answer}
 use Rattle.packet.specs.Read.{head_at, head_tests}
 use Rattle.receiving.specs.Receiving.{next_size}
 use Rattle.line.specs.Fit.{line_fits}
@@ -32,17 +32,11 @@ use Rattle.book.proofs.Facts.{line_fits_lem}
 use Rattle.book.proofs.OneOwner.{whose_at}
 use Rattle.calls.specs.Order.{arrive_order, packet_line, owner_line}
 use Rattle.calls.specs.Stages.{fit_book, roomy, address_tests, arrival_tests}
+use Rattle.calls.proofs.Accepted.{answer_refuses, answer_passes, answer_is}
+use Rattle.calls.proofs.Lent.{Lent}
 use Rattle.calls.proofs.OrderStages.{arrive_stages}
 use Rattle.incoming.specs.Reading.{arriving_at}
 use Rattle.incoming.specs.declared.Arriving.{Arriving}
-
-abbrev why_arrive : Result Arriving Refusal → Verdict
-why_arrive (Ok a) = Ok tt
-why_arrive (Err r) = Err r
-
-abbrev packet_or : Arriving → Result Arriving Refusal → Arriving
-packet_or d (Ok a) = a
-packet_or d (Err r) = d
 
 -- a packet's line and what it passed there
 pub record Addressed (b : Book) (n : ℕ) (s : List ℕ) (i : ℕ) : Type 0 where
@@ -78,25 +72,31 @@ addressed b n s e =
     let w = whose_at b (head_at s).identifier i o in
     record { book = t.0; store = leb-true _ _ t.1.0; owner = o; number = w.0; opened = w.1; fits = line_fits_lem b t.0 i; head = h.0; line = q.1 }
 
-module _ (b : Book) (n : ℕ) (s : List ℕ) {r : Result Arriving Refusal} (e : r ≡ settle (verdict (arrive_order b n s)) Err (Ok (arriving_at (owner_line (packet_line b s)) s))) where
-  pub arrive_refuses : {x : Refusal} → r ≡ Err x → verdict (arrive_order b n s) ≡ Err x
-  arrive_refuses p = verdict_of_answer why_arrive (verdict (arrive_order b n s)) e (λ x. refl) refl ∙ ap why_arrive p
+-- a packet that may arrive is for the line that its octets name, and the store is lent for that line
+module _ (b : Book) (n : ℕ) (s : List ℕ) where
+  abbrev its : Arriving
+  its = arriving_at (owner_line (packet_line b s)) s
 
-  module _ {a : Arriving} (p : r ≡ Ok a) where
-    pub arrive_passes : verdict (arrive_order b n s) ≡ Ok tt
-    arrive_passes = verdict_of_answer why_arrive (verdict (arrive_order b n s)) e (λ x. refl) refl ∙ ap why_arrive p
+  module _ {r : Result Arriving Refusal} (e : r ≡ answered (arrive_order b n s) its) where
+    pub arrive_refuses : {x : Refusal} → r ≡ Err x → verdict (arrive_order b n s) ≡ Err x
+    arrive_refuses p = answer_refuses (arrive_order b n s) its e p
 
-    -- what was read is what the octets say
-    pub arrive_is : a ≡ arriving_at (owner_line (packet_line b s)) s
-    arrive_is =
-        ap (packet_or (arriving_at (owner_line (packet_line b s)) s))
-        (sym p ∙ e ∙ ap (λ (v : Verdict). settle {A = Result Arriving Refusal} v Err (Ok (arriving_at (owner_line (packet_line b s)) s))) arrive_passes)
+    module _ {a : Arriving} (p : r ≡ Ok a) where
+      pub arrive_passes : verdict (arrive_order b n s) ≡ Ok tt
+      arrive_passes = answer_passes (arrive_order b n s) its e p
 
-    pub arrive_line : owner_line (packet_line b s) ≡ a.line
-    arrive_line = sym (ap (λ (x : Arriving). x.line) arrive_is)
+      -- what was read is what the octets say
+      pub arrive_is : a ≡ its
+      arrive_is = answer_is (arrive_order b n s) its e p
 
-    pub arrive_addressed : Addressed b n s a.line
-    arrive_addressed = rw arrive_line at (addressed b n s (sym (ap verdict (arrive_stages b n s)) ∙ arrive_passes))
+      pub arrive_line : owner_line (packet_line b s) ≡ a.line
+      arrive_line = sym (ap (λ (x : Arriving). x.line) arrive_is)
+
+      pub arrive_addressed : Addressed b n s a.line
+      arrive_addressed = rw arrive_line at (addressed b n s (sym (ap verdict (arrive_stages b n s)) ∙ arrive_passes))
+
+      pub arrive_lent : length b.lines ≡ 4 → Lent b a.line n (arrive_tests (line_of b a.line) s)
+      arrive_lent k = let d = arrive_addressed in record { number = omega (arith, d.number); line = d.fits; room = d.store; own = d.line }
 
 -- the message handed out has as many octets as its size says
 pub handed_length : (l : Line) (channel space : ℕ) (part : List ℕ) → line_fits l ≡ true → part_length l ≤ length part → verdict (hand_call_tests l channel space) ≡ Ok tt

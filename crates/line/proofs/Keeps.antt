@@ -36,10 +36,10 @@ pub record LineOk (l : Line) : Type 0 where
   pub flag : l.opened ≤ 1
   pub settings : settings_fit (settings_of l) ≡ true
   pub modes : modes_fit l.modes ≡ true
-  pub sending1 : sending_fits (send_window l 1) (send_largest l) l.sending1 ≡ true
-  pub sending2 : sending_fits (send_window l 2) (send_largest l) l.sending2 ≡ true
-  pub receiving1 : receiving_fits (receive_window l 1) (receive_largest l) l.receiving1 ≡ true
-  pub receiving2 : receiving_fits (receive_window l 2) (receive_largest l) l.receiving2 ≡ true
+  pub sending1 : sending_fits (send_window l 1) (send_largest l) l.sending.one ≡ true
+  pub sending2 : sending_fits (send_window l 2) (send_largest l) l.sending.two ≡ true
+  pub receiving1 : receiving_fits (receive_window l 1) (receive_largest l) l.receiving.one ≡ true
+  pub receiving2 : receiving_fits (receive_window l 2) (receive_largest l) l.receiving.two ≡ true
   pub owed : owed_fits l.owed ≡ true
   pub quiet : (l.modes.local ≡ modem → ⊥) → idle l ≡ true
 
@@ -110,17 +110,17 @@ stepped_ok l k m f =
       flag = k.flag;
       settings = k.settings;
       modes = f;
-      sending1 = emptied_keeps 32 largest (lit≤ tt) l.sending1 k.sending1;
-      sending2 = emptied_keeps 8 largest (lit≤ tt) l.sending2 k.sending2;
-      receiving1 = cleared_keeps 32 largest (lit≤ tt) l.receiving1 k.receiving1;
-      receiving2 = cleared_keeps 8 largest (lit≤ tt) l.receiving2 k.receiving2;
+      sending1 = emptied_keeps 32 largest (lit≤ tt) l.sending.one k.sending1;
+      sending2 = emptied_keeps 8 largest (lit≤ tt) l.sending.two k.sending2;
+      receiving1 = cleared_keeps 32 largest (lit≤ tt) l.receiving.one k.receiving1;
+      receiving2 = cleared_keeps 8 largest (lit≤ tt) l.receiving.two k.receiving2;
       owed = fresh_fits;
       quiet = λ n. rw mask_set;
     })
     (λ a b. stays (λ n. absurd (n b)))
     (λ a b. stays (λ n. k.quiet a))
   where
-    stays : ((m.local ≡ modem → ⊥) → idle l ≡ true) → LineOk (with_parts l m l.sending1 l.sending2 l.receiving1 l.receiving2 l.owed)
+    stays : ((m.local ≡ modem → ⊥) → idle l ≡ true) → LineOk (with_parts l m l.sending.one l.sending.two l.receiving.one l.receiving.two l.owed)
     stays q =
         record {
           flag = k.flag;
@@ -139,14 +139,14 @@ module _ (l : Line) (k : LineOk l) (inside : l.modes.local ≡ modem) (channel :
   pub sending_side : sending_fits (send_window l channel) (send_largest l) (sending_of l channel) ≡ true
   sending_side = go (eqb channel 1)
     where
-      go : (t : Bool) → sending_fits (pick t 32 8) largest (pick t l.sending1 l.sending2) ≡ true
+      go : (t : Bool) → sending_fits (pick t 32 8) largest (pick t l.sending.one l.sending.two) ≡ true
       go true = k.sending1
       go false = k.sending2
 
   pub receiving_side : receiving_fits (receive_window l channel) (receive_largest l) (receiving_of l channel) ≡ true
   receiving_side = go (eqb channel 1)
     where
-      go : (t : Bool) → receiving_fits (pick t 32 8) largest (pick t l.receiving1 l.receiving2) ≡ true
+      go : (t : Bool) → receiving_fits (pick t 32 8) largest (pick t l.receiving.one l.receiving.two) ≡ true
       go true = k.receiving1
       go false = k.receiving2
 
@@ -165,7 +165,7 @@ module _ (l : Line) (k : LineOk l) (inside : l.modes.local ≡ modem) (channel :
         quiet = λ n. absurd (n inside);
       }
     where
-      go : (t : Bool) → sending_fits (pick t 32 8) largest s ≡ true → (sending_fits 32 largest (pick t s l.sending1) ≡ true) × (sending_fits 8 largest (pick t l.sending2 s) ≡ true)
+      go : (t : Bool) → sending_fits (pick t 32 8) largest s ≡ true → (sending_fits 32 largest (pick t s l.sending.one) ≡ true) × (sending_fits 8 largest (pick t l.sending.two s) ≡ true)
       go true p = (p, k.sending2)
       go false p = (k.sending1, p)
 
@@ -184,6 +184,6 @@ module _ (l : Line) (k : LineOk l) (inside : l.modes.local ≡ modem) (channel :
         quiet = λ n. absurd (n inside);
       }
     where
-      go : (t : Bool) → receiving_fits (pick t 32 8) largest r ≡ true → (receiving_fits 32 largest (pick t r l.receiving1) ≡ true) × (receiving_fits 8 largest (pick t l.receiving2 r) ≡ true)
+      go : (t : Bool) → receiving_fits (pick t 32 8) largest r ≡ true → (receiving_fits 32 largest (pick t r l.receiving.one) ≡ true) × (receiving_fits 8 largest (pick t l.receiving.two r) ≡ true)
       go true p = (p, k.receiving2)
       go false p = (k.receiving1, p)

@@ -39,9 +39,9 @@ same_opening l m s t q r o = record { opened = refl; identifier = refl; kind = r
 -- so a change of mode leaves it
 pub stepped_opening : (l : Line) (m : Modes) (c : Channels) → SameOpening l (stepped_to l m c)
 unfolding stepped_to
-stepped_opening l m Stay = same_opening l m l.sending1 l.sending2 l.receiving1 l.receiving2 l.owed
+stepped_opening l m Stay = same_opening l m l.sending.one l.sending.two l.receiving.one l.receiving.two l.owed
 stepped_opening l m Fresh = same_opening l m fresh_sending fresh_sending fresh_receiving fresh_receiving fresh_owed
-stepped_opening l m Emptied = same_opening l m (emptied_sending l.sending1) (emptied_sending l.sending2) (emptied_receiving l.receiving1) (emptied_receiving l.receiving2) fresh_owed
+stepped_opening l m Emptied = same_opening l m (emptied_sending l.sending.one) (emptied_sending l.sending.two) (emptied_receiving l.receiving.one) (emptied_receiving l.receiving.two) fresh_owed
 
 then_opening : {l m n : Line} → SameOpening l m → SameOpening m n → SameOpening l n
 then_opening a b = record { opened = b.opened ∙ a.opened; identifier = b.identifier ∙ a.identifier; kind = b.kind ∙ a.kind }
@@ -51,7 +51,7 @@ parts_same : (l : Line) (s t : Sending) (q r : Receiving) (o : Owed) → SameSet
 parts_same l s t q r o = record { opening = same_opening l l.modes s t q r o; modes = refl }
 
 pub none_same : (l : Line) → SameSettings l l
-none_same l = parts_same l l.sending1 l.sending2 l.receiving1 l.receiving2 l.owed
+none_same l = parts_same l l.sending.one l.sending.two l.receiving.one l.receiving.two l.owed
 
 -- so their slots lie alike
 pub region_same : {l m : Line} → SameSettings l m → (way : Way) (channel : ℕ) → region_of m way channel ≡ region_of l way channel
@@ -64,10 +64,10 @@ then_same a b = record { opening = then_opening a.opening b.opening; modes = b.m
 
 module _ (l : Line) where
   pub with_sending_same : (channel : ℕ) (s : Sending) → SameSettings l (with_sending l channel s)
-  with_sending_same channel s = parts_same l (pick (eqb channel 1) s l.sending1) (pick (eqb channel 1) l.sending2 s) l.receiving1 l.receiving2 l.owed
+  with_sending_same channel s = parts_same l (pick (eqb channel 1) s l.sending.one) (pick (eqb channel 1) l.sending.two s) l.receiving.one l.receiving.two l.owed
 
   pub with_receiving_same : (channel : ℕ) (r : Receiving) → SameSettings l (with_receiving l channel r)
-  with_receiving_same channel r = parts_same l l.sending1 l.sending2 (pick (eqb channel 1) r l.receiving1) (pick (eqb channel 1) l.receiving2 r) l.owed
+  with_receiving_same channel r = parts_same l l.sending.one l.sending.two (pick (eqb channel 1) r l.receiving.one) (pick (eqb channel 1) l.receiving.two r) l.owed
 
   pub with_owed_same : (o : Owed) → SameSettings l (with_owed l o)
-  with_owed_same o = parts_same l l.sending1 l.sending2 l.receiving1 l.receiving2 o
+  with_owed_same o = parts_same l l.sending.one l.sending.two l.receiving.one l.receiving.two o

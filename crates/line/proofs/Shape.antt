@@ -36,27 +36,27 @@ module _ (l : Line) (k : Shaped l) where
   pub sending_long : (channel : ℕ) → length (sending_of l channel).sizes ≡ widest
   sending_long channel = go (eqb channel 1)
     where
-      go : (t : Bool) → length (pick {A = Sending} t l.sending1 l.sending2).sizes ≡ widest
+      go : (t : Bool) → length (pick {A = Sending} t l.sending.one l.sending.two).sizes ≡ widest
       go true = k.sending1
       go false = k.sending2
 
   pub receiving_long : (channel : ℕ) → length (receiving_of l channel).sizes ≡ widest
   receiving_long channel = go (eqb channel 1)
     where
-      go : (t : Bool) → length (pick {A = Receiving} t l.receiving1 l.receiving2).sizes ≡ widest
+      go : (t : Bool) → length (pick {A = Receiving} t l.receiving.one l.receiving.two).sizes ≡ widest
       go true = k.receiving1
       go false = k.receiving2
 
   pub with_sending_shaped : (channel : ℕ) (s : Sending) → length s.sizes ≡ widest → Shaped (with_sending l channel s)
   with_sending_shaped channel s e = let both = go (eqb channel 1) in record { sending1 = both.0; sending2 = both.1; receiving1 = k.receiving1; receiving2 = k.receiving2 }
     where
-      go : (t : Bool) → (length (pick {A = Sending} t s l.sending1).sizes ≡ widest) × (length (pick {A = Sending} t l.sending2 s).sizes ≡ widest)
+      go : (t : Bool) → (length (pick {A = Sending} t s l.sending.one).sizes ≡ widest) × (length (pick {A = Sending} t l.sending.two s).sizes ≡ widest)
       go true = (e, k.sending2)
       go false = (k.sending1, e)
 
   pub with_receiving_shaped : (channel : ℕ) (r : Receiving) → length r.sizes ≡ widest → Shaped (with_receiving l channel r)
   with_receiving_shaped channel r e = let both = go (eqb channel 1) in record { sending1 = k.sending1; sending2 = k.sending2; receiving1 = both.0; receiving2 = both.1 }
     where
-      go : (t : Bool) → (length (pick {A = Receiving} t r l.receiving1).sizes ≡ widest) × (length (pick {A = Receiving} t l.receiving2 r).sizes ≡ widest)
+      go : (t : Bool) → (length (pick {A = Receiving} t r l.receiving.one).sizes ≡ widest) × (length (pick {A = Receiving} t l.receiving.two r).sizes ≡ widest)
       go true = (e, k.receiving2)
       go false = (k.receiving1, e)

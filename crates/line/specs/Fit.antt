@@ -25,8 +25,8 @@ settings_of l = record { identifier = l.identifier; kind = l.kind; vbd = offers_
 abbrev pub idle : Line → Bool
 idle l =
     all_hold
-    (eqb (mask_of l.sending1.unacked) 0 ∷ eqb (mask_of l.sending2.unacked) 0
-    ∷ eqb (mask_of l.receiving1.stored) 0 ∷ eqb (mask_of l.receiving2.stored) 0
+    (eqb (mask_of l.sending.one.unacked) 0 ∷ eqb (mask_of l.sending.two.unacked) 0
+    ∷ eqb (mask_of l.receiving.one.stored) 0 ∷ eqb (mask_of l.receiving.two.stored) 0
     ∷ eqb l.owed.count 0 ∷ [])
 
 -- the clauses of an open line (RULES 15.2 to RULES 15.22): its settings, its modes, its sides, what it owes, and not "anything held,
@@ -35,10 +35,10 @@ abbrev pub line_tests : Line → List Bool
 line_tests l =
     settings_fit (settings_of l)
     ∷ modes_fit l.modes
-    ∷ sending_fits (send_window l 1) (send_largest l) l.sending1
-    ∷ sending_fits (send_window l 2) (send_largest l) l.sending2
-    ∷ receiving_fits (receive_window l 1) (receive_largest l) l.receiving1
-    ∷ receiving_fits (receive_window l 2) (receive_largest l) l.receiving2
+    ∷ sending_fits (send_window l 1) (send_largest l) l.sending.one
+    ∷ sending_fits (send_window l 2) (send_largest l) l.sending.two
+    ∷ receiving_fits (receive_window l 1) (receive_largest l) l.receiving.one
+    ∷ receiving_fits (receive_window l 2) (receive_largest l) l.receiving.two
     ∷ owed_fits l.owed
     ∷ (eqb l.modes.local modem || idle l)
     ∷ []

@@ -1,4 +1,5 @@
 pub mod Line
+pub mod Sides
 pub mod Mode
 pub mod Fit
 pub mod Shape

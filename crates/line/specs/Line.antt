@@ -1,7 +1,6 @@
 -- A line's record: closed, just opened, and its two channels.
 -- Assumes nothing.
 use Rattle.std.specs.Prelude.{ℕ, Bool, eqb}
-use Rattle.ground.specs.Pick.{pick}
 use Rattle.sending.specs.Sending.{fresh_sending}
 use Rattle.receiving.specs.Receiving.{fresh_receiving}
 use Rattle.sending.specs.declared.Sending.{Sending}
@@ -11,6 +10,7 @@ use Rattle.mode.specs.declared.Modes.{Modes}
 use Rattle.owed.specs.Owed.{fresh_owed}
 use Rattle.owed.specs.declared.Owed.{Owed}
 use Rattle.line.specs.declared.Line.{Line}
+use Rattle.line.specs.Sides.{side_of, with_side}
 use Rattle.line.specs.declared.Settings.{Settings}
 
 -- the line is open: exactly if its flag is 1 (RULES 15.2)
@@ -24,10 +24,8 @@ line_with opened identifier kind modes s t q r owed = record {
   identifier = identifier;
   kind = kind;
   modes = modes;
-  sending1 = s;
-  sending2 = t;
-  receiving1 = q;
-  receiving2 = r;
+  sending = record { one = s; two = t };
+  receiving = record { one = q; two = r };
   owed = owed;
 }
 
@@ -45,20 +43,22 @@ with_parts l = line_with l.opened l.identifier l.kind
 
 -- the sides of channel 1, or else of channel 2
 abbrev pub sending_of : Line → ℕ → Sending
-sending_of l channel = pick (eqb channel 1) l.sending1 l.sending2
+sending_of l channel = side_of l.sending channel
 
 abbrev pub receiving_of : Line → ℕ → Receiving
-receiving_of l channel = pick (eqb channel 1) l.receiving1 l.receiving2
+receiving_of l channel = side_of l.receiving channel
 
 -- the line with another owed list
 abbrev pub with_owed : Line → Owed → Line
-with_owed l = with_parts l l.modes l.sending1 l.sending2 l.receiving1 l.receiving2
+with_owed l = with_parts l l.modes l.sending.one l.sending.two l.receiving.one l.receiving.two
 
 -- the line with another side of one channel
 abbrev pub with_sending : Line → ℕ → Sending → Line
 with_sending l channel s =
-    with_parts l l.modes (pick (eqb channel 1) s l.sending1) (pick (eqb channel 1) l.sending2 s) l.receiving1 l.receiving2 l.owed
+    let both = with_side l.sending channel s in
+    with_parts l l.modes both.one both.two l.receiving.one l.receiving.two l.owed
 
 abbrev pub with_receiving : Line → ℕ → Receiving → Line
 with_receiving l channel r =
-    with_parts l l.modes l.sending1 l.sending2 (pick (eqb channel 1) r l.receiving1) (pick (eqb channel 1) l.receiving2 r) l.owed
+    let both = with_side l.receiving channel r in
+    with_parts l l.modes l.sending.one l.sending.two both.one both.two l.owed

@@ -12,6 +12,6 @@ use Rattle.line.specs.declared.Line.{Line}
 -- "Entering m starts both channels fresh" (RULES 9.12). "Leaving m, for any cause, ends relay for that opening and empties its stores,
 -- owed list included" (RULES 9.13, RULES 9.14)
 unfoldable pub stepped_to : Line → Modes → Channels → Line
-stepped_to l m Stay = with_parts l m l.sending1 l.sending2 l.receiving1 l.receiving2 l.owed
+stepped_to l m Stay = with_parts l m l.sending.one l.sending.two l.receiving.one l.receiving.two l.owed
 stepped_to l m Fresh = with_parts l m fresh_sending fresh_sending fresh_receiving fresh_receiving fresh_owed
-stepped_to l m Emptied = with_parts l m (emptied_sending l.sending1) (emptied_sending l.sending2) (emptied_receiving l.receiving1) (emptied_receiving l.receiving2) fresh_owed
+stepped_to l m Emptied = with_parts l m (emptied_sending l.sending.one) (emptied_sending l.sending.two) (emptied_receiving l.receiving.one) (emptied_receiving l.receiving.two) fresh_owed

@@ -5,7 +5,7 @@ use Rattle.places.specs.Places.{widest}
 use Rattle.line.specs.declared.Line.{Line}
 
 pub record Shaped (l : Line) : Type 0 where
-  pub sending1 : length l.sending1.sizes ≡ widest
-  pub sending2 : length l.sending2.sizes ≡ widest
-  pub receiving1 : length l.receiving1.sizes ≡ widest
-  pub receiving2 : length l.receiving2.sizes ≡ widest
+  pub sending1 : length l.sending.one.sizes ≡ widest
+  pub sending2 : length l.sending.two.sizes ≡ widest
+  pub receiving1 : length l.receiving.one.sizes ≡ widest
+  pub receiving2 : length l.receiving.two.sizes ≡ widest

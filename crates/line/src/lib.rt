@@ -6,6 +6,7 @@
 ghost use Rattle.std.specs.Prelude.{◌≡◌};
 ghost use Rattle.sending.specs.Sending.{sending_fits};
 ghost use Rattle.receiving.specs.Receiving.{receiving_fits};
+ghost use Rattle.line.specs.Sides.{side_of, with_side};
 ghost use Rattle.line.specs.Line.{closed_line, opened_line, sending_of, with_sending, receiving_of, with_receiving};
 ghost use Rattle.line.specs.Fit.{settings_fit, settings_of, idle, line_fits};
 ghost use Rattle.line.specs.Mode.{stepped_to};
@@ -32,6 +33,36 @@ pub struct Settings {
     pub relay: bool,
 }
 
+// What a line has for each of its two channels.
+#[repr(C)]
+#[derive(Clone, Copy)]
+pub struct Sides<T> {
+    // Channel 1's.
+    pub one: T,
+    // Channel 2's.
+    pub two: T,
+}
+
+impl<T: Copy> Sides<T> {
+    // That of channel 1, or else of 2.
+    fn of(self, channel: u8) -> T
+        ensures { result ≡ side_of self channel }
+    {
+        if channel == 1 { self.one } else { self.two }
+    }
+
+    // Both, with another one of a channel.
+    fn with(self, channel: u8, side: T) -> Sides<T>
+        ensures { result ≡ with_side self channel side }
+    {
+        if channel == 1 {
+            Sides { one: side, ..self }
+        } else {
+            Sides { two: side, ..self }
+        }
+    }
+}
+
 #[repr(C)]
 #[derive(Clone, Copy)]
 pub struct Line {
@@ -42,11 +73,9 @@ pub struct Line {
     // The payload type, 96 to 127.
     pub kind: u8,
     pub modes: Modes,
-    // What is sent and what is received on channel 1, and on channel 2.
-    pub sending1: Sending,
-    pub sending2: Sending,
-    pub receiving1: Receiving,
-    pub receiving2: Receiving,
+    // What is sent and what is received on each channel.
+    pub sending: Sides<Sending>,
+    pub receiving: Sides<Receiving>,
     // The acknowledgements owed, for both channels.
     pub owed: Owed,
 }
@@ -55,11 +84,11 @@ pub struct Line {
 pub fn settings_fit(s: Settings) -> bool
     ensures { result ≡ settings_fit s }
 {
-    (s.identifier <= 127) & (96 <= s.kind) & (s.kind <= 127)
+    s.identifier <= 127 && (96..=127).contains(&s.kind)
 }
 
 impl Line {
-    // What the flag of a line may be.
+    // What the flag of a line may be: a number, because any memory may be handed in as a book.
     pub const CLOSED: u8 = 0;
 
     pub const OPEN: u8 = 1;
@@ -77,10 +106,14 @@ impl Line {
             identifier: 0,
             kind: 0,
             modes,
-            sending1: sending,
-            sending2: sending,
-            receiving1: receiving,
-            receiving2: receiving,
+            sending: Sides {
+                one: sending,
+                two: sending,
+            },
+            receiving: Sides {
+                one: receiving,
+                two: receiving,
+            },
             owed,
         }
     }
@@ -104,48 +137,34 @@ impl Line {
     pub fn sending(self, channel: u8) -> Sending
         ensures { result ≡ sending_of self channel }
     {
-        if channel == 1 {
-            self.sending1
-        } else {
-            self.sending2
-        }
+        self.sending.of(channel)
     }
 
     // The line with another sending side.
     pub fn with_sending(self, channel: u8, side: Sending) -> Line
         ensures { result ≡ with_sending self channel side }
     {
-        let mut next = self;
-        if channel == 1 {
-            next.sending1 = side;
-            return next;
+        Line {
+            sending: self.sending.with(channel, side),
+            ..self
         }
-        next.sending2 = side;
-        next
     }
 
     // The receiving side of channel 1, or else of 2.
     pub fn receiving(self, channel: u8) -> Receiving
         ensures { result ≡ receiving_of self channel }
     {
-        if channel == 1 {
-            self.receiving1
-        } else {
-            self.receiving2
-        }
+        self.receiving.of(channel)
     }
 
     // The line with another receiving side.
     pub fn with_receiving(self, channel: u8, side: Receiving) -> Line
         ensures { result ≡ with_receiving self channel side }
     {
-        let mut next = self;
-        if channel == 1 {
-            next.receiving1 = side;
-            return next;
+        Line {
+            receiving: self.receiving.with(channel, side),
+            ..self
         }
-        next.receiving2 = side;
-        next
     }
 }
 
@@ -157,7 +176,8 @@ impl Line {
     // How many octets a line's part of the store has: those, and as many for receiving.
     pub const PART: usize = 10560;
 
-    // How many messages of a channel may be under way: those that it sends.
+    // How many messages of a channel may be under way: those that it sends. The two ways have a function each, though the bodies are one,
+    // because the promises speak of each.
     pub fn send_window(self, channel: u8) -> u32
         ensures { result ≡ send_window self channel }
     {
@@ -226,10 +246,10 @@ impl Line {
     fn idle(self) -> bool
         ensures { result ≡ idle self }
     {
-        let a = self.sending1.unacked.empty();
-        let b = self.sending2.unacked.empty();
-        let c = self.receiving1.stored.empty();
-        let d = self.receiving2.stored.empty();
+        let a = self.sending.one.unacked.empty();
+        let b = self.sending.two.unacked.empty();
+        let c = self.receiving.one.stored.empty();
+        let d = self.receiving.two.stored.empty();
         a & b & c & d & (self.owed.count == 0)
     }
 
@@ -295,26 +315,32 @@ impl Line {
                 let owed = Owed::fresh();
                 Line {
                     modes,
-                    sending1: sending,
-                    sending2: sending,
-                    receiving1: receiving,
-                    receiving2: receiving,
+                    sending: Sides {
+                        one: sending,
+                        two: sending,
+                    },
+                    receiving: Sides {
+                        one: receiving,
+                        two: receiving,
+                    },
                     owed,
                     ..self
                 }
             }
             Channels::Emptied => {
-                let sending1 = self.sending1.emptied();
-                let sending2 = self.sending2.emptied();
-                let receiving1 = self.receiving1.emptied();
-                let receiving2 = self.receiving2.emptied();
+                let sending = Sides {
+                    one: self.sending.one.emptied(),
+                    two: self.sending.two.emptied(),
+                };
+                let receiving = Sides {
+                    one: self.receiving.one.emptied(),
+                    two: self.receiving.two.emptied(),
+                };
                 let owed = Owed::fresh();
                 Line {
                     modes,
-                    sending1,
-                    sending2,
-                    receiving1,
-                    receiving2,
+                    sending,
+                    receiving,
                     owed,
                     ..self
                 }

@@ -70,7 +70,7 @@ pub struct Step<T> {
     pub channels: Channels,
 }
 
-// The local mode goes from `before` to `after` and enters m.
+// The local mode goes from `before` to `after` and enters m. Leaving is the function below: one test each, and each is spoken of.
 fn enters_m(before: u8, after: u8) -> bool
     ensures { result ≡ enters before after }
 {
@@ -98,10 +98,10 @@ pub fn channels_for(before: u8, after: u8) -> Channels
 }
 
 impl Modes {
-    // A flag that is set.
+    // A flag that is set. Flags and modes of a record are numbers, because any memory may be handed in as a book, and what is none is BOOK.
     pub const YES: u8 = 1;
 
-    // The modes, as Table C.1 numbers them; 0 is i.
+    // The modes, as Table C.1 numbers them; 0 is i. A call may name any number, and what is no mode is RANGE, so no enum is asked for.
     pub const UNKNOWN: u8 = 0;
 
     pub const AUDIO: u8 = 1;

@@ -66,7 +66,7 @@ fn hear_verdict(modes: Modes, mode: u8, time: u64) -> Result<(), Refusal>
     if modes.ended() {
         return Err(Refusal::RECOVERY);
     }
-    if !((Modes::AUDIO <= mode) & (mode <= Modes::TEXT)) {
+    if !(Modes::AUDIO..=Modes::TEXT).contains(&mode) {
         return Err(Refusal::RANGE);
     }
     Ok(())

@@ -1,6 +1,6 @@
 // A tick, and recovery: only a tick begins it, and a tick ends the line after the last try (RULES 10.1, RULES 10.2, RULES 10.6; V.150.1,
 // C.5.4.1). What a tick means is defined in specs/Recovery.antt. The clock is the caller's.
-ghost use Rattle.std.specs.Prelude.{◌≡◌, [], ◌∷◌, ◌-◌};
+ghost use Rattle.std.specs.Prelude.{◌≡◌, [], ◌∷◌};
 ghost use Rattle.ground.specs.Refusal.{verdict};
 ghost use Rattle.mode.specs.Recovery.{tick_tests, due, ticked_modes, ticked_answer, try_due, tick_step};
 ghost use Rattle.mode.specs.Says.{tick_says, says};
@@ -8,13 +8,6 @@ ghost use Rattle.mode.specs.Says.{tick_says, says};
 use crate::refused;
 use ground::Refusal;
 use mode::{Due, Modes, Step, channels_for};
-
-// Milliseconds from one time to another; none where that is not the later.
-fn elapsed(from: u64, to: u64) -> u64
-    ensures { result ≡ to - from }
-{
-    if from <= to { to - from } else { 0 }
-}
 
 // What refuses a tick: CLOCK.
 fn tick_verdict(modes: Modes, time: u64) -> Result<(), Refusal>
@@ -34,9 +27,9 @@ fn due(modes: Modes, time: u64) -> bool
         return false;
     }
     if modes.tries == 0 {
-        return (modes.local != modes.remote) & (Modes::T2 < elapsed(modes.since, time));
+        return (modes.local != modes.remote) & (Modes::T2 < time.saturating_sub(modes.since));
     }
-    Modes::T1 <= elapsed(modes.tried, time)
+    Modes::T1 <= time.saturating_sub(modes.tried)
 }
 
 // The record after a tick.

@@ -1,5 +1,5 @@
 // A line's owed acknowledgements, by value: one list for both channels (RULES 4.11), in order of entry (RULES 5.7).
-// An entry is a word of 16 bits, channel (2) and number (14), as a packet carries it. `writing` puts them into packets.
+// An entry is a word of 16 bits, channel (2) and number (14), as a packet carries it and as the record has it. `writing` puts them into packets.
 #![tactic(auto)]
 
 ghost use Rattle.std.specs.Prelude.{◌≡◌, ◌≤◌, ◌<◌, get_or};
@@ -11,7 +11,7 @@ use packet::Acks;
 #[repr(C)]
 #[derive(Clone, Copy)]
 pub struct Owed {
-    // The entries there are, oldest first; what stands after them is not read.
+    // The entries there are, oldest first; what stands after them is not read. An array and its count, because a book has no heap.
     pub numbers: [u16; 64],
     // How many entries there are. At most 64.
     pub count: u8,

@@ -29,7 +29,8 @@ pub struct Head {
     pub base: u16,
 }
 
-// The acknowledgements, at most three. Each is a word as it is sent: its channel (2 bits) and its number (14).
+// The acknowledgements, at most three. Each is a word as it is sent: its channel (2 bits) and its number (14). They are fields and no array,
+// because `ack_list`, `acks_served` and `acks_blank` of specs/ name them.
 // A word at or past the count is 0.
 #[derive(Clone, Copy)]
 pub struct Acks {

@@ -46,8 +46,8 @@ base_of l channel = (sending_of l channel).base
 base_put : (l : Line) (channel : ℕ) (s : Sending) → base_of l channel ≤ s.base → (c : ℕ) → base_of l c ≤ base_of (with_sending l channel s) c
 base_put l channel s q c = go (eqb c 1) (eqb channel 1) q
   where
-    go : (t u : Bool) → (pick u l.sending1 l.sending2).base ≤ s.base
-        → (pick t l.sending1 l.sending2).base ≤ (pick t (pick u s l.sending1) (pick u l.sending2 s)).base
+    go : (t u : Bool) → (pick u l.sending.one l.sending.two).base ≤ s.base
+        → (pick t l.sending.one l.sending.two).base ≤ (pick t (pick u s l.sending.one) (pick u l.sending.two s)).base
     go true true q = q
     go true false q = omega arith
     go false true q = omega arith

@@ -91,6 +91,6 @@ module _ {g : Gateway} {i : ℕ} (r : Ready g i) (out : List ℕ) (space : slip.
 
   pub slip_written : (accepts (does g (call.closing i) out) ≡ true)
       × (given (does g (call.closing i) out) ≡ slip_octets (slip_of l))
-      × (our_bodies.slip_read (given (does g (call.closing i) out)) ≡ accepted (l.identifier ∷ l.kind ∷ l.receiving1.next ∷ l.receiving2.next ∷ bit (ended l.modes) ∷ []))
+      × (our_bodies.slip_read (given (does g (call.closing i) out)) ≡ accepted (l.identifier ∷ l.kind ∷ l.receiving.one.next ∷ l.receiving.two.next ∷ bit (ended l.modes) ∷ []))
   unfolding slip_of
   slip_written = (call_accepted g (call.closing i) out close_passes, written, ap our_bodies.slip_read written ∙ ap slip.answer_of (slip_back.round (slip_of l) (length out) fitting))

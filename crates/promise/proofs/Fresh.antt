@@ -48,7 +48,7 @@ pub record Unused (l : Line) : Type 0 where
   pub receiving : (c : ℕ) → receiving_of l c ≡ fresh_receiving
   pub owed : l.owed ≡ fresh_owed
 
-unused_by : (l : Line) → l.sending1 ≡ fresh_sending → l.sending2 ≡ fresh_sending → l.receiving1 ≡ fresh_receiving → l.receiving2 ≡ fresh_receiving → l.owed ≡ fresh_owed → Unused l
+unused_by : (l : Line) → l.sending.one ≡ fresh_sending → l.sending.two ≡ fresh_sending → l.receiving.one ≡ fresh_receiving → l.receiving.two ≡ fresh_receiving → l.owed ≡ fresh_owed → Unused l
 unused_by l a b c d o =
     record {
       sending = λ n. pick_by (λ (s : Sending). s ≡ fresh_sending) (eqb n 1) (λ _. a) (λ _. b);

@@ -137,8 +137,8 @@ module _ {e f : End} (channel space : ℕ) (pass : verdict (empty_tests e.line c
   base_names : (c : ℕ) → c ≤ 2 → Names (got e) c (base_for e.line c) (pick (eqb c 0) [] (mark c (receiving_of e.line c).next ∷ []))
   unfolding base_for
   base_names zero q = nothing refl
-  base_names (suc zero) q = reached e.line.receiving1.next refl refl (omega arith)
-  base_names (suc (suc zero)) q = reached e.line.receiving2.next refl refl (omega arith)
+  base_names (suc zero) q = reached e.line.receiving.one.next refl refl (omega arith)
+  base_names (suc (suc zero)) q = reached e.line.receiving.two.next refl refl (omega arith)
   base_names (suc (suc (suc c))) q = absurd (omega arith)
 
   pub empty_says : Says e (empty_by e channel)

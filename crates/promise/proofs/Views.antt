@@ -29,7 +29,9 @@ use Rattle.line.specs.Figures.{send_window, receive_window}
 use Rattle.line.specs.Part.{slot_count, slot_size, part_length, region_of}
 use Rattle.line.proofs.Part.{Side, Served, region_end, regions_apart}
 use Rattle.line.specs.Line.{sending_of, receiving_of, with_sending, with_receiving}
+use Rattle.line.specs.Sides.{side_of, with_side}
 use Rattle.line.specs.declared.Line.{Line}
+use Rattle.line.specs.declared.Sides.{Sides}
 use Rattle.store.specs.Store.{slot_at}
 use Rattle.store.specs.declared.Way.{Way}
 use Rattle.store.specs.declared.Way.TheVariants as way
@@ -77,50 +79,48 @@ module _ (part after : List ℕ) (l m : Line) (channel : ℕ) where
       ap (λ (r : Receiving). receives (receive_window l channel) (slots_of l after way.Receiving channel) r) e
       ∙ receives_same (receive_window l channel) (slots_of l part way.Receiving channel) (slots_of l after way.Receiving channel) same (receiving_of l channel) k
 
--- A side put anew: it is what its channel has, and the other channel and the other way have what they had.
+-- A side put anew: it is what its channel has, and the other channel has what it had.
+module _ {A : Type 0} (both : Sides A) (channel : ℕ) (a : A) where
+  side_here : side_of (with_side both channel a) channel ≡ a
+  side_here = go (eqb channel 1)
+    where
+      go : (t : Bool) → pick t (pick t a both.one) (pick t both.two a) ≡ a
+      go true = refl
+      go false = refl
+
+  -- of two channels that are reliable one is 1 and the other is 2
+  module _ (c : ℕ) (v : reliable channel ≡ true) (w : reliable c ≡ true) (d : c ≢ channel) where
+    both_one : eqb c 1 ≡ true → eqb channel 1 ≡ true → ⊥
+    both_one e f = d (eqb-true _ _ e ∙ sym (eqb-true _ _ f))
+
+    both_two : eqb c 1 ≡ false → eqb channel 1 ≡ false → ⊥
+    both_two e f = d (eqb-true _ _ (or_second (eqb c 1) (eqb c 2) w e) ∙ sym (eqb-true _ _ (or_second (eqb channel 1) (eqb channel 2) v f)))
+
+    side_other : side_of (with_side both channel a) c ≡ side_of both c
+    side_other = go (eqb c 1) (eqb channel 1) both_one both_two
+      where
+        go : (t u : Bool) → (t ≡ true → u ≡ true → ⊥) → (t ≡ false → u ≡ false → ⊥)
+            → pick t (pick u a both.one) (pick u both.two a) ≡ pick t both.one both.two
+        go true true f g = absurd (f refl refl)
+        go true false f g = refl
+        go false true f g = refl
+        go false false f g = absurd (g refl refl)
+
+-- so of a line
 module _ (l : Line) where
   module _ (channel : ℕ) where
     pub sending_here : (s : Sending) → sending_of (with_sending l channel s) channel ≡ s
-    sending_here s = go (eqb channel 1)
-      where
-        go : (t : Bool) → pick t (pick t s l.sending1) (pick t l.sending2 s) ≡ s
-        go true = refl
-        go false = refl
+    sending_here s = side_here l.sending channel s
 
     pub receiving_here : (r : Receiving) → receiving_of (with_receiving l channel r) channel ≡ r
-    receiving_here r = go (eqb channel 1)
-      where
-        go : (t : Bool) → pick t (pick t r l.receiving1) (pick t l.receiving2 r) ≡ r
-        go true = refl
-        go false = refl
+    receiving_here r = side_here l.receiving channel r
 
-    -- of two channels that are reliable one is 1 and the other is 2
     module _ (c : ℕ) (v : reliable channel ≡ true) (w : reliable c ≡ true) (d : c ≢ channel) where
-      both_one : eqb c 1 ≡ true → eqb channel 1 ≡ true → ⊥
-      both_one a b = d (eqb-true _ _ a ∙ sym (eqb-true _ _ b))
-
-      both_two : eqb c 1 ≡ false → eqb channel 1 ≡ false → ⊥
-      both_two a b = d (eqb-true _ _ (or_second (eqb c 1) (eqb c 2) w a) ∙ sym (eqb-true _ _ (or_second (eqb channel 1) (eqb channel 2) v b)))
-
       pub sending_other : (s : Sending) → sending_of (with_sending l channel s) c ≡ sending_of l c
-      sending_other s = go (eqb c 1) (eqb channel 1) both_one both_two
-        where
-          go : (t u : Bool) → (t ≡ true → u ≡ true → ⊥) → (t ≡ false → u ≡ false → ⊥)
-              → pick t (pick u s l.sending1) (pick u l.sending2 s) ≡ pick t l.sending1 l.sending2
-          go true true f g = absurd (f refl refl)
-          go true false f g = refl
-          go false true f g = refl
-          go false false f g = absurd (g refl refl)
+      sending_other s = side_other l.sending channel s c v w d
 
       pub receiving_other : (r : Receiving) → receiving_of (with_receiving l channel r) c ≡ receiving_of l c
-      receiving_other r = go (eqb c 1) (eqb channel 1) both_one both_two
-        where
-          go : (t u : Bool) → (t ≡ true → u ≡ true → ⊥) → (t ≡ false → u ≡ false → ⊥)
-              → pick t (pick u r l.receiving1) (pick u l.receiving2 r) ≡ pick t l.receiving1 l.receiving2
-          go true true f g = absurd (f refl refl)
-          go true false f g = refl
-          go false true f g = refl
-          go false false f g = absurd (g refl refl)
+      receiving_other r = side_other l.receiving channel r c v w d
 
 -- A message put into the slot of a place of the window.
 module _ (l : Line) (part : List ℕ) (long : part_length l ≤ length part) (w : Way) (channel : ℕ) (v : reliable channel ≡ true) where

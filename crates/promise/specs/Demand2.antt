@@ -155,7 +155,7 @@ pub record Demand2 (b : Build) : Type 0 where
       (accepts (does b.does g (call.closing i) out) ≡ true)
       × (given (does b.does g (call.closing i) out) ≡ slip.slip_octets (slip_of l))
       × (b.bodies.slip_read (given (does b.does g (call.closing i) out))
-      ≡ accepted (l.identifier ∷ l.kind ∷ l.receiving1.next ∷ l.receiving2.next ∷ bit (ended l.modes) ∷ []))
+      ≡ accepted (l.identifier ∷ l.kind ∷ l.receiving.one.next ∷ l.receiving.two.next ∷ bit (ended l.modes) ∷ []))
   -- every message that the line holds is written, and so is an empty packet
   pub sending_back : (g : Gateway) (i : ℕ) → Ready g i → Relays g i → (channel : ℕ) → reliable channel ≡ true → (rank : ℕ) → rank < held_count (sending_of (line_at g i) channel)
       → (out : List ℕ) → longest_packet (line_at g i) ≤ length out

@@ -1,6 +1,7 @@
 // The receiving side of a channel, by value: the next message to hand out (RULES 5.8), what is stored (RULES 4.7) and where it lies
 // (RULES 6.5). The window and the largest message are parameters.
-// It says what becomes of a number that arrives, and when handing out is refused as SPENT or NOTHING.
+// It says what becomes of a number that arrives, and when handing out is refused as SPENT or NOTHING. What the two sides count differs, so
+// `fresh`, `emptied` and `fits` are told of each, and not of both at once.
 #![tactic(auto)]
 
 ghost use Rattle.std.specs.Prelude.{◌≡◌, ◌≤◌, ◌<◌};

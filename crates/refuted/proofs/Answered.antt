@@ -50,18 +50,18 @@ acked_base : (s : Sending) (n : ℕ) → (acked_by s n).base ≡ s.base
 unfolding acked_by
 acked_base s n = pick_by (λ (x : Sending). x.base ≡ s.base) (ltb (dist n s.base) (under_way s)) (λ _. refl) (λ _. refl)
 
-one_acked : (l : Line) (word : ℕ) → (acked_line l word).sending1.base ≡ l.sending1.base
+one_acked : (l : Line) (word : ℕ) → (acked_line l word).sending.one.base ≡ l.sending.one.base
 unfolding acked_line
 one_acked l word = go (eqb (channel_of word) 1)
   where
     acked : Bool → Sending
-    acked t = acked_by (pick t l.sending1 l.sending2) (number_of word)
+    acked t = acked_by (pick t l.sending.one l.sending.two) (number_of word)
 
-    go : (t : Bool) → (pick {A = Sending} t (acked t) l.sending1).base ≡ l.sending1.base
-    go true = acked_base l.sending1 (number_of word)
+    go : (t : Bool) → (pick {A = Sending} t (acked t) l.sending.one).base ≡ l.sending.one.base
+    go true = acked_base l.sending.one (number_of word)
     go false = refl
 
-all_acked : (words : List ℕ) (l : Line) → (acked_all l words).sending1.base ≡ l.sending1.base
+all_acked : (words : List ℕ) (l : Line) → (acked_all l words).sending.one.base ≡ l.sending.one.base
 unfolding acked_all
 all_acked [] l = refl
 all_acked (w ∷ ws) l = all_acked ws (acked_line l w) ∙ one_acked l w
@@ -75,13 +75,13 @@ base_heard s k b e t q =
     let most : leb (dist b s.base) (under_way s) ≡ true = le-leb (dist b s.base) (under_way s) (omega (arith, d, e, t)) in
     rw (some, most) (omega (arith, d, e))
 
-news_base : (l : Line) (s : List ℕ) (k : ℕ) → payload_of s ≡ [] → (head_at s).channel ≡ 1 → (head_at s).base ≡ suc k % modulus → l.sending1.base ≡ k → l.sending1.taken ≡ suc k
-    → (arrived_line l s).sending1.base ≡ suc k
+news_base : (l : Line) (s : List ℕ) (k : ℕ) → payload_of s ≡ [] → (head_at s).channel ≡ 1 → (head_at s).base ≡ suc k % modulus → l.sending.one.base ≡ k → l.sending.one.taken ≡ suc k
+    → (arrived_line l s).sending.one.base ≡ suc k
 unfolding news_line heard_line
 news_base l s k nothing c b e t =
-    ap (λ (x : Line). x.sending1.base) (sym (news_all l s (omega (arith, payload_length s, ap length nothing))))
+    ap (λ (x : Line). x.sending.one.base) (sym (news_all l s (omega (arith, payload_length s, ap length nothing))))
     ∙ all_acked (ack_list (acks_at s)) (heard_line l (head_at s).channel (head_at s).base)
-    ∙ ap (λ (x : ℕ). (heard_line l x (head_at s).base).sending1.base) c ∙ base_heard l.sending1 k (head_at s).base e t b
+    ∙ ap (λ (x : ℕ). (heard_line l x (head_at s).base).sending.one.base) c ∙ base_heard l.sending.one k (head_at s).base e t b
 
 module _ {test : ℕ → ℕ → Bool} {k : ℕ} (less : k < 16384) (a : At test k) (passes : test k k ≡ false) (first : test 0 0 ≡ false) where
   abbrev b : Behind test k k
@@ -238,11 +238,11 @@ module _ {test : ℕ → ℕ → Bool} {k : ℕ} (less : k < 16384) (a : At test
       alike (turned t₅) back [] a.twin.mine.0 hears.1 same₃ (heard news.octets news hears.0 t₅.yours.1 honest₃)
       (heard news.octets news hears.0 t₅.yours.1 honest₃)
 
-  base₃ : (line_at g₃ 0).sending1.base ≡ suc k
+  base₃ : (line_at g₃ 0).sending.one.base ≡ suc k
   unfolding effect part_start base_for
   base₃ =
       let tells : (head_at news.octets).base ≡ suc k % modulus = ap (λ (x : Head). x.base) head ∙ ap (λ (n : ℕ). n % modulus) (next_is (turned t₄) ∙ handed₂) in
-      ap (λ (l : Line). l.sending1.base) (line_left (run_kept (turned t₅).ours).mine back [] hears.0 (call_passes (g₂ few b) back [] hears.1.accepted))
+      ap (λ (l : Line). l.sending.one.base) (line_left (run_kept (turned t₅).ours).mine back [] hears.0 (call_passes (g₂ few b) back [] hears.1.accepted))
       ∙ news_base (line_at (g₂ few b) 0) news.octets k empty (ap (λ (x : Head). x.channel) head) tells (base₂ few b) (taken_is (turned t₅) ∙ taken₁ few b)
 
   pub round : At test (suc k)

@@ -84,8 +84,8 @@ dropping_fails d =
     let gone : (drops (call.closing 4) b holding.store []).book ≡ with_line b 0 (dropped (line_of b 0))
     = ap (λ (x : CallResult). (pick (eqb x.answer.number 0) x (result_with x.answer (with_line b 0 (dropped (line_of b 0))) holding.store [])).book) (did_refused (call.closing 4) b holding.store [] e) in
     let same = ap (λ (x : CallResult). x.book) ((d.calls (call.closing 4) b holding.store []).refuses RANGE e) in
-    let n : (line_of b 0).sending1.base + 1 ≡ (line_of b 0).sending1.base
-    = ap (λ (l : Line). l.sending1.base) (sym (line_same b k.1 0 (lit< tt) (dropped (line_of b 0)))) ∙ ap (λ (x : Book). (line_of x 0).sending1.base) (sym gone ∙ same) in
+    let n : (line_of b 0).sending.one.base + 1 ≡ (line_of b 0).sending.one.base
+    = ap (λ (l : Line). l.sending.one.base) (sym (line_same b k.1 0 (lit< tt) (dropped (line_of b 0)))) ∙ ap (λ (x : Book). (line_of x 0).sending.one.base) (sym gone ∙ same) in
     omega (arith, n)
 
 -- line 1 is opened, and a request brings it into modem relay; line 0 stays closed

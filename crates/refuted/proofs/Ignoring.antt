@@ -124,7 +124,7 @@ module _ {test : ℕ → ℕ → Bool} {k n : ℕ} (few : n ≤ 16384) (a : Behi
 
   -- message n is not stored, as it was not taken before
   abbrev r : Receiving
-  r = (line_at h 0).receiving1
+  r = (line_at h 0).receiving.one
 
   not_stored : stored h (n - k) ≡ true → ⊥
   not_stored bit =
@@ -151,7 +151,7 @@ module _ {test : ℕ → ℕ → Bool} {k n : ℕ} (few : n ≤ 16384) (a : Behi
   caught_fails : Demand3 (doing (arriving (ignores test))) → ⊥
   caught_fails d =
       let e = (d.ends gone (rounds.t₂ few a).mine (yours.mine.0, within) 1 refl).all_out came (λ n. space) (λ n. lit≤ tt) in
-      let free : stored h' (n - k) ≡ false = ap (λ (l : Line). bit_of (mask_of l.receiving1.stored) (n - k)) line ∙ not_so (stored h (n - k)) not_stored in
+      let free : stored h' (n - k) ≡ false = ap (λ (l : Line). bit_of (mask_of l.receiving.one.stored) (n - k)) line ∙ not_so (stored h (n - k)) not_stored in
       let most = at_most test (n - k) shaped free e.hands in
       omega (arith, most, ap length e.all, a.handed, a.low, rounds.taken₁ few a)
 

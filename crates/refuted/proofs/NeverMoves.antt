@@ -100,8 +100,8 @@ put_low b k i l q = go b.lines i k
 side_low : (l : Line) → LowLine l → (channel : ℕ) (s : Sending) → Low (window_of channel) s → LowLine (with_sending l channel s)
 side_low l k channel s q c = go (eqb c 1) (eqb channel 1) (k c) q
   where
-    go : (t u : Bool) → Low (pick t 32 8) (pick t l.sending1 l.sending2) → Low (pick u 32 8) s
-        → Low (pick t 32 8) (pick t (pick u s l.sending1) (pick u l.sending2 s))
+    go : (t u : Bool) → Low (pick t 32 8) (pick t l.sending.one l.sending.two) → Low (pick u 32 8) s
+        → Low (pick t 32 8) (pick t (pick u s l.sending.one) (pick u l.sending.two s))
     go true true a b = b
     go true false a b = a
     go false true a b = a
@@ -128,7 +128,7 @@ stepped_low l k m Stay c = k c
 stepped_low l k m Fresh c = fresh_low c
 stepped_low l k m Emptied c = go (eqb c 1) (k c)
   where
-    go : (t : Bool) → Low (window_of c) (pick t l.sending1 l.sending2) → Low (window_of c) (pick t (emptied_sending l.sending1) (emptied_sending l.sending2))
+    go : (t : Bool) → Low (window_of c) (pick t l.sending.one l.sending.two) → Low (window_of c) (pick t (emptied_sending l.sending.one) (emptied_sending l.sending.two))
     go true a = record { base = a.base; few = a.few }
     go false a = record { base = a.base; few = a.few }
 

@@ -39,7 +39,7 @@ handing = call.hand_out 0 1
 
 -- message R + d is stored
 abbrev pub stored : Gateway → ℕ → Bool
-stored h d = bit_of (mask_of (line_at h 0).receiving1.stored) d
+stored h d = bit_of (mask_of (line_at h 0).receiving.one.stored) d
 
 module _ (h : Gateway) (pass : Passes h handing space) where
   first_stored : stored h 0 ≡ true
@@ -71,6 +71,6 @@ at_most test zero {h} k free (promise.next t more) = clash (sym free ∙ first_s
 at_most test (suc d) {h} {q = q} k free (promise.next t more) =
     let pass = call_passes h handing space t in
     let kept = (every_call_keeps handing h.book h.store space (fits h pass) k).1 in
-    let still = ap (λ (l : Line). bit_of (mask_of l.receiving1.stored) d) (line h pass k) ∙ shifted (line_at h 0).receiving1 d ∙ free in
+    let still = ap (λ (l : Line). bit_of (mask_of l.receiving.one.stored) d) (line h pass k) ∙ shifted (line_at h 0).receiving.one d ∙ free in
     let rest = at_most test d kept still more in
     omega (arith, rest, length-append (q.handed 1) (given (does result_of h handing space) ∷ []))

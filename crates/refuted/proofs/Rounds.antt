@@ -56,7 +56,7 @@ pub record Behind (test : ℕ → ℕ → Bool) (k n : ℕ) : Type 0 where
   pub twin : Twin test g p h q
   pub taken : length (p.taken 1) ≡ n
   pub handed : length (q.handed 1) ≡ k
-  pub base : (line_at g 0).sending1.base ≡ k
+  pub base : (line_at g 0).sending.one.base ≡ k
   pub low : k ≤ n
   pub high : n < k + 32
   pub silent : p.owes ≡ []
@@ -72,7 +72,7 @@ pub record At (test : ℕ → ℕ → Bool) (k : ℕ) : Type 0 where
   pub twin : Twin test g p h q
   pub taken : length (p.taken 1) ≡ k
   pub handed : length (q.handed 1) ≡ k
-  pub base : (line_at g 0).sending1.base ≡ k
+  pub base : (line_at g 0).sending.one.base ≡ k
   pub silent : p.owes ≡ []
   pub quiet : q.owes ≡ []
   pub idle : q.taken 1 ≡ []
@@ -99,11 +99,11 @@ behind a =
 
 -- a message taken leaves h as it was
 pub took_base : {g h : Gateway} {p q : Past} → Run result_of bound 0 0 5 98 g p h q → (m : Message) → Serves result_of g 0 (call.taking 0 1 m) []
-    → (line_at (after result_of g (call.taking 0 1 m) []) 0).sending1.base ≡ (line_at g 0).sending1.base
+    → (line_at (after result_of g (call.taking 0 1 m) []) 0).sending.one.base ≡ (line_at g 0).sending.one.base
 unfolding line_for effect part_start took_one
 took_base {g} r m s =
     let c : Call = call.taking 0 1 m in
-    ap (λ (l : Line). l.sending1.base) (line_left (run_kept r).mine c [] refl (call_passes g c [] s.accepted))
+    ap (λ (l : Line). l.sending.one.base) (line_left (run_kept r).mine c [] refl (call_passes g c [] s.accepted))
 
 -- Message n is taken and written.
 module _ {test : ℕ → ℕ → Bool} {k n : ℕ} (few : n ≤ 16384) (a : Behind test k n) where
@@ -128,7 +128,7 @@ module _ {test : ℕ → ℕ → Bool} {k n : ℕ} (few : n ≤ 16384) (a : Behi
   pub taken₁ : length (p₁.taken 1) ≡ suc n
   taken₁ = omega (arith, length-append (a.p.taken 1) (message ∷ []), a.taken)
 
-  base₁ : (line_at g₁ 0).sending1.base ≡ k
+  base₁ : (line_at g₁ 0).sending.one.base ≡ k
   base₁ = took_base t.ours message takes ∙ a.base
 
   -- it is held, as it has not come yet
@@ -162,9 +162,9 @@ module _ {test : ℕ → ℕ → Bool} {k n : ℕ} (few : n ≤ 16384) (a : Behi
   pub t₂ : Twin test g₂ p₂ a.h a.q
   t₂ = alike t₁ sending space t.mine.0 sends refl (sent 1 ranked.0 sends.accepted) (sent 1 ranked.0 sends.accepted)
 
-  pub base₂ : (line_at g₂ 0).sending1.base ≡ k
+  pub base₂ : (line_at g₂ 0).sending.one.base ≡ k
   unfolding line_for effect part_start wrote_line
-  base₂ = ap (λ (l : Line). l.sending1.base) (line_left (run_kept t₁.ours).mine sending space refl (call_passes g₁ sending space sends.accepted)) ∙ base₁
+  base₂ = ap (λ (l : Line). l.sending.one.base) (line_left (run_kept t₁.ours).mine sending space refl (call_passes g₁ sending space sends.accepted)) ∙ base₁
 
   pub number : (ranked_mark g₁ 0 1 ranked.0).number ≡ n
   number = ranked.2

@@ -61,7 +61,7 @@ module _ (k : ℕ) (all : k ≡ 16353) (a : At never k) where
     run : Run result_of bound 0 0 5 98 g p a.h a.q
     mine : InRelay g 0 p
     taken : length (p.taken 1) ≡ k + n
-    base : (line_at g 0).sending1.base ≡ k
+    base : (line_at g 0).sending.one.base ≡ k
     goes : {w : ℕ} {g₀ h₀ h' : Gateway} {p₀ q₀ q' : Past} → Goes result_of w 0 0 5 98 g₀ p₀ h₀ q₀ a.g a.p h' q' → Goes result_of w 0 0 5 98 g₀ p₀ h₀ q₀ g p h' q'
 
   -- one is taken

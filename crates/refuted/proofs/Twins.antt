@@ -65,14 +65,14 @@ module _ {test : ℕ → ℕ → Bool} {g h : Gateway} {p q : Past} (t : Twin te
   pub S-is : (sends_by g 0 p 1).S ≡ length (p.taken 1)
   S-is = sym ((promised t.ours).there 1 refl).counted
 
-  pub h_is : (sends_by g 0 p 1).h ≡ (line_at g 0).sending1.base
+  pub h_is : (sends_by g 0 p 1).h ≡ (line_at g 0).sending.one.base
   h_is = ap (λ (o : Bool). (sends_of (part_in g 0) (pick o (line_at g 0) closed_line) 1).h) t.mine.0
 
   pub R-is : (receives_by h 0 q 1).R ≡ length (q.handed 1)
   R-is = sym ((promised t.ours).there 1 refl).next
 
-  pub next_is : (line_at h 0).receiving1.next ≡ length (q.handed 1)
+  pub next_is : (line_at h 0).receiving.one.next ≡ length (q.handed 1)
   next_is = sym (ap (λ (o : Bool). (receives_of (part_in h 0) (pick o (line_at h 0) closed_line) 1).R) t.yours.0) ∙ R-is
 
-  pub taken_is : (line_at g 0).sending1.taken ≡ length (p.taken 1)
+  pub taken_is : (line_at g 0).sending.one.taken ≡ length (p.taken 1)
   taken_is = sym (ap (λ (o : Bool). (sends_of (part_in g 0) (pick o (line_at g 0) closed_line) 1).S) t.mine.0) ∙ S-is

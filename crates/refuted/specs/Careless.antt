@@ -47,7 +47,7 @@ reordered = doing (λ c b store out. settle (verdict (room_first c b (length sto
 
 -- "A refusal changes no stored state": where a call is refused, line 0 drops its oldest message of channel 1
 abbrev pub dropped : Line → Line
-dropped l = with_sending l 1 (moved_by (send_window l 1) l.sending1 1)
+dropped l = with_sending l 1 (moved_by (send_window l 1) l.sending.one 1)
 
 abbrev pub drops : Does
 drops c b store out =
@@ -112,7 +112,7 @@ left i before after = after
 abbrev shut : ℕ → Book → Book
 shut i b =
     let l = line_of b i in
-    with_line b i (line_with 0 l.identifier l.kind l.modes l.sending1 l.sending2 l.receiving1 l.receiving2 l.owed)
+    with_line b i (line_with 0 l.identifier l.kind l.modes l.sending.one l.sending.two l.receiving.one l.receiving.two l.owed)
 
 -- every opening is accepted as by ours, and only the first one opens a line
 abbrev pub opens_one : Build

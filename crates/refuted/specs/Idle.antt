@@ -87,7 +87,7 @@ holds_nothing = doing (instead result_of forgets lets result_of)
 
 -- the line as the packet leaves it, but with nothing received
 abbrev pub unread : Line → Line → Line
-unread old new = with_parts new new.modes new.sending1 new.sending2 old.receiving1 old.receiving2 new.owed
+unread old new = with_parts new new.modes new.sending.one new.sending.two old.receiving.one old.receiving.two new.owed
 
 -- the packet's message is acknowledged and not stored
 abbrev pub ignored : Arrives

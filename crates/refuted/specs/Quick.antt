@@ -35,8 +35,8 @@ past_acked w s None = moved_by w s (under_way s)
 
 abbrev freed : Line → Line
 freed l =
-    with_parts l l.modes (past_acked (send_window l 1) l.sending1 (rank_of (mask_of l.sending1.unacked) 0)) (past_acked (send_window l 2) l.sending2 (rank_of (mask_of l.sending2.unacked) 0))
-    l.receiving1 l.receiving2 l.owed
+    with_parts l l.modes (past_acked (send_window l 1) l.sending.one (rank_of (mask_of l.sending.one.unacked) 0)) (past_acked (send_window l 2) l.sending.two (rank_of (mask_of l.sending.two.unacked) 0))
+    l.receiving.one l.receiving.two l.owed
 
 abbrev pub frees : Arrives
 frees s b store out =

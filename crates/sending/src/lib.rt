@@ -24,11 +24,11 @@ pub struct Sending {
     pub unacked: Places,
     // The place of message h; message h + i lies i places further on. Below the window.
     pub origin: u32,
-    // By place: how many octets the message there has.
+    // By place: how many octets the message there has. Beside the set, which is by offset, so that no size moves when the set does.
     pub sizes: [u16; Places::WIDEST],
 }
 
-// The side once an acknowledgement has been heard, and whether that named a message held unacknowledged.
+// The side once an acknowledgement has been heard, and whether that named a message held unacknowledged. Both are always there, so it is no Option.
 #[derive(Clone, Copy)]
 pub struct Acknowledged {
     pub side: Sending,

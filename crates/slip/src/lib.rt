@@ -19,7 +19,7 @@ pub struct Slip {
     pub count1: u32,
     // And on channel 2.
     pub count2: u32,
-    // Why the line was closed: ASKED or ENDED.
+    // Why the line was closed: ASKED or ENDED. A caller may hand in any number, and others are RANGE, so it is no enum.
     pub reason: u8,
 }
 

@@ -88,14 +88,14 @@ module _ (store out : List ℕ) (long : store_octets ≤ length store) where
   row_6_call_accepted n = ap (λ (d : CallResult). d.answer) (six_done n)
 
   -- number 27 is stored, at d = 31: in the side's record, and its octet in the store
-  pub row_6_call_stored : ((line_of (six 27).book 0).receiving1 ≡ stored_at 32 at16380 31 1) × ((six 27).store ≡ sets store 8844 (0x41 ∷ []))
+  pub row_6_call_stored : ((line_of (six 27).book 0).receiving.one ≡ stored_at 32 at16380 31 1) × ((six 27).store ≡ sets store 8844 (0x41 ∷ []))
   unfolding accepted_result effect line_for owner_from head_at number_at base_at acks_at ack_at payload_of arrived_line arrived_store news_line heard_line acked_all stored_line stored_store arrival_of heard_base mask_of set_of part_start bits_at
-  row_6_call_stored = (ap (λ (d : CallResult). (line_of d.book 0).receiving1) (six_done 27), ap (λ (d : CallResult). d.store) (six_done 27))
+  row_6_call_stored = (ap (λ (d : CallResult). (line_of d.book 0).receiving.one) (six_done 27), ap (λ (d : CallResult). d.store) (six_done 27))
 
   -- number 28 is old: neither changes
-  pub row_6_call_old : ((line_of (six 28).book 0).receiving1 ≡ at16380) × ((six 28).store ≡ store)
+  pub row_6_call_old : ((line_of (six 28).book 0).receiving.one ≡ at16380) × ((six 28).store ≡ store)
   unfolding accepted_result effect line_for owner_from head_at number_at base_at acks_at ack_at payload_of arrived_line arrived_store news_line heard_line acked_all stored_line stored_store arrival_of heard_base mask_of set_of part_start bits_at
-  row_6_call_old = (ap (λ (d : CallResult). (line_of d.book 0).receiving1) (six_done 28), ap (λ (d : CallResult). d.store) (six_done 28))
+  row_6_call_old = (ap (λ (d : CallResult). (line_of d.book 0).receiving.one) (six_done 28), ap (λ (d : CallResult). d.store) (six_done 28))
 
   -- 32 are taken and h is 0: the next is FULL
   pub row_7_call_full : (x : ℕ) → (result_of (taking x) book_seven store out).answer ≡ refused FULL

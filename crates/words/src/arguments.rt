@@ -77,20 +77,18 @@ impl Kind {
 // The words of a call.
 #[derive(Clone, Copy)]
 pub struct Arguments {
-    // Which call of its table the words are for.
-    pub call: usize,
     // The numbers, flags and modes, each at the place of its word.
     values: [u64; 19],
     // How many octets were read.
     pub size: usize,
 }
 
-// A call of a table: its name, and the words that it asks for.
+// A call of a table: its name, which call it is, and the words that it asks for.
 #[derive(Clone, Copy)]
-pub struct Entry(pub &'static [u8], pub &'static [Kind]);
+pub struct Entry<C>(pub &'static [u8], pub C, pub &'static [Kind]);
 
 // The words of a call, each of the kind asked for. Octets are put at the start of `out`, which is their most. The first fault is told.
-fn read(call: usize, line: &[u8], kinds: &[Kind], out: &mut [u8]) -> Result<Arguments, Fault>
+fn read(line: &[u8], kinds: &[Kind], out: &mut [u8]) -> Result<Arguments, Fault>
     ensures { IfOk result (λ arguments. arguments.size ≤ length out.new) }
 {
     let mut values = [0; 19];
@@ -109,20 +107,25 @@ fn read(call: usize, line: &[u8], kinds: &[Kind], out: &mut [u8]) -> Result<Argu
     }
     match split_word(rest) {
         Some(_) => Err(Fault::Extra),
-        None => Ok(Arguments { call, values, size }),
+        None => Ok(Arguments { values, size }),
     }
 }
 
 // The call of a table that the first word of a line names, and the words that it asks for.
-pub fn call(line: &[u8], table: &[Entry], out: &mut [u8]) -> Result<Arguments, Fault>
-    ensures { IfOk result (λ arguments. arguments.size ≤ length out.new) }
+pub fn call<C: Copy>(
+    line: &[u8],
+    table: &[Entry<C>],
+    out: &mut [u8],
+) -> Result<(C, Arguments), Fault>
+    ensures { IfOk result (λ named. named.1.size ≤ length out.new) }
 {
     let (name, rest) = split_word(line).ok_or(Fault::Unknown)?;
-    let call = table
+    let entry = table
         .iter()
-        .position(|entry| entry.0 == name)
+        .find(|entry| entry.0 == name)
         .ok_or(Fault::Unknown)?;
-    read(call, rest, table[call].1, out)
+    let arguments = read(rest, entry.2, out)?;
+    Ok((entry.1, arguments))
 }
 
 impl Arguments {
@@ -156,5 +159,9 @@ impl Arguments {
         ensures { result ≤ most }
     {
         most.min(self.long(i) as usize)
+    }
+    // The octets that were read, which lie at the start of `out`.
+    pub fn octets(self, out: &[u8]) -> &[u8] {
+        &out[..self.size.min(out.len())]
     }
 }

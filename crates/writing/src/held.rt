@@ -37,9 +37,5 @@ pub fn send(l: Line, part: &[u8], channel: u8, h: Held, out: &mut [u8]) -> Write
     let at = region.slot(h.place);
     let end = at + h.size as usize;
     let head = crate::head_for(l, channel, (h.number & Channel::NUMBER) as u16);
-    let acks = crate::acks_for(l);
-    let largest = l.send_largest() as usize;
-    let size = packet::write_packet(out, head, acks, &part[at..end], largest).unwrap();
-    let line = crate::wrote_line(l);
-    WriteStep { line, size }
+    crate::write(l, head, &part[at..end], out)
 }

@@ -5,7 +5,9 @@
 
 ghost use Rattle.std.specs.Prelude.{◌≡◌, true, ◌≤◌, ◌++◌, length, drop, Ok};
 ghost use Rattle.ground.specs.Refusal.{verdict};
+ghost use Rattle.line.specs.Figures.{send_largest};
 ghost use Rattle.line.specs.Fit.{line_fits};
+ghost use Rattle.packet.specs.Write.{write_tests, packet_octets};
 ghost use Rattle.writing.specs.Write.{acks_for, wrote_line, base_for, head_for, header_length_for, empty_packet, empty_tests};
 
 use channel::Channel;
@@ -85,16 +87,23 @@ pub fn may_write_empty(l: Line, channel: u8, space: usize) -> Result<(), Refusal
     Ok(())
 }
 
+// Writes a packet with that head, the acknowledgements that the line owes, and a payload. Its tests have passed.
+fn write(l: Line, head: Head, payload: &[u8], out: &mut [u8]) -> WriteStep
+    requires { (l.owed.count ≤ 64) × (verdict (write_tests head (acks_for l) payload.now (send_largest l) (length out.old)) ≡ Ok tt) }
+    ensures { (result.line ≡ wrote_line l) × (result.size ≡ length (packet_octets head (acks_for l) payload.now)) × (out.new ≡ packet_octets head (acks_for l) payload.now ++ drop (length (packet_octets head (acks_for l) payload.now)) out.old) }
+{
+    let acks = acks_for(l);
+    let largest = l.send_largest() as usize;
+    let size = packet::write_packet(out, head, acks, payload, largest).unwrap();
+    let line = wrote_line(l);
+    WriteStep { line, size }
+}
+
 // Writes an empty packet.
 pub fn write_empty(l: Line, channel: u8, out: &mut [u8]) -> WriteStep
     requires { (line_fits l ≡ true) × (verdict (empty_tests l channel (length out.old)) ≡ Ok tt) }
     ensures { (result.line ≡ wrote_line l) × (result.size ≡ length (empty_packet l channel)) × (out.new ≡ empty_packet l channel ++ drop (length (empty_packet l channel)) out.old) }
 {
-    let none = [0u8; 1];
     let head = head_for(l, channel, 0);
-    let acks = acks_for(l);
-    let largest = l.send_largest() as usize;
-    let size = packet::write_packet(out, head, acks, &none[..0], largest).unwrap();
-    let line = wrote_line(l);
-    WriteStep { line, size }
+    write(l, head, &[], out)
 }

@@ -5,4 +5,4 @@ pub returns : goal.returns
 unfolding wrote_line
 returns c =
     let l = c.args.l in
-    λ i. record { opened = l.opened; identifier = l.identifier; kind = l.kind; modes = l.modes; sending1 = l.sending1; sending2 = l.sending2; receiving1 = l.receiving1; receiving2 = l.receiving2; owed = c.without_three-owed.ensures i }
+    λ i. record { opened = l.opened; identifier = l.identifier; kind = l.kind; modes = l.modes; sending = l.sending; receiving = l.receiving; owed = c.without_three-owed.ensures i }

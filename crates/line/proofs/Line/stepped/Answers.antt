@@ -18,4 +18,4 @@ unfolding stepped_to
 returns-in-Emptied c =
     let l = c.args.self in
     rw c.in-Emptied.is
-    (λ i. line_with l.opened l.identifier l.kind c.args.modes (c.emptied-sending1.ensures i) (c.emptied-sending2.ensures i) (c.emptied-receiving1.ensures i) (c.emptied-receiving2.ensures i) (c.fresh-owed-in-Emptied.ensures i))
+    (λ i. line_with l.opened l.identifier l.kind c.args.modes (c.emptied.ensures i) (c.emptied-in-Emptied.ensures i) (c.emptied-in-Emptied-2.ensures i) (c.emptied-in-Emptied-3.ensures i) (c.fresh-owed-in-Emptied.ensures i))

@@ -10,8 +10,8 @@ returns-then-ended c = simp (← c.ended.ensures, c.if-ended.true)
 
 pub returns-then-modes-eq0 : goal.returns-then-modes-eq0
 unfolding due
-returns-then-modes-eq0 c = simp (← c.ended.ensures, c.if-ended.false, eq-eqb _ _ c.if-modes-eq0.true, c.elapsed.ensures)
+returns-then-modes-eq0 c = simp (← c.ended.ensures, c.if-ended.false, eq-eqb _ _ c.if-modes-eq0.true, c.saturating_sub.ensures)
 
 pub returns : goal.returns
 unfolding due
-returns c = simp (← c.ended.ensures, c.if-ended.false, ne_eqb _ _ c.if-modes-eq0.false, c.elapsed-2.ensures)
+returns c = simp (← c.ended.ensures, c.if-ended.false, ne_eqb _ _ c.if-modes-eq0.false, c.saturating_sub-2.ensures)
