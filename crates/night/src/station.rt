@@ -25,13 +25,9 @@ pub struct Station {
 
 // What a call wrote to an output, if it was not refused.
 fn written(mut out: Vec<u8>, wrote: Result<usize, Refusal>) -> Option<Vec<u8>> {
-    match wrote {
-        Ok(size) => {
-            out.truncate(size);
-            Some(out)
-        }
-        Err(_) => None,
-    }
+    let size = wrote.ok()?;
+    out.truncate(size);
+    Some(out)
 }
 
 impl Station {

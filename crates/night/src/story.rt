@@ -2,11 +2,11 @@
 ghost use Rattle.std.specs.Prelude.{◌<◌};
 
 use crate::clock::Turn;
+use crate::paper;
 use crate::paper::Event;
 use crate::station::Station;
 use crate::stream::{Channel, End, LINES, Stream};
 use crate::tally::Ledger;
-use crate::{paper, station};
 use mode::Modes;
 use std::alloc::{AllocError, Global};
 use std::io;
