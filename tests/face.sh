@@ -24,12 +24,14 @@ among() {
     return 1
 }
 
-# asking FILE..: the public functions that have a `requires`, and the public types that have a ghost field: who makes a value of such a type
+# asking FILE..: the public functions that have a `requires`, a function of an implemented trait being one, and the public types that have a ghost field: who makes a value of such a type
 # has to show the field. A type that ends in its first line has none.
 asking() {
     awk '
-        FNR == 1 { open = type = "" }
-        /^ *(pub )?(const )?(unsafe )?(extern "C" )?fn / { name = $0; sub(/^ */, "", name); open = /^ *pub /; type = "" }
+        FNR == 1 { open = type = ""; trait = 0 }
+        /^impl.* for / { trait = 1 }
+        /^}/ { trait = 0 }
+        /^ *(pub )?(const )?(unsafe )?(extern "C" )?fn / { name = $0; sub(/^ */, "", name); open = trait || /^ *pub /; type = "" }
         open && /^([^\/]* )?requires(\*? |\*?$)/ { print FILENAME ": " name; open = 0; next }
         open && /\{ *$/ && !/(requires|ensures|ghost)/ { open = 0 }
         /^ *pub (struct|enum|union) / { type = $0; sub(/^ */, "", type) }
@@ -39,13 +41,17 @@ asking() {
 }
 
 # callable CRATE: the public functions that another crate can call, a method after its type, as Type.method. They stand in lib.rt, or are
-# passed on there from a module of the crate's own.
+# passed on there from a module of the crate's own. A conversion, `impl From<A> for b`, is BFromA.from, as the toolchain names it.
 callable() {
     awk '
         # one line for an item that goes over several
         /^pub use / && !/;/ { item = $0; next }
         item != "" { item = item " " $0; if (!/;/) next; $0 = item; item = "" }
         /^mod / { sub(/;.*/, ""); own[$2] = 1 }
+        /^impl From<[A-Za-z0-9]+> for [A-Za-z0-9]+ / {
+            from = $2; gsub(/From<|>/, "", from)
+            print toupper(substr($4, 1, 1)) substr($4, 2) "From" from ".from"
+        }
         /^impl / { type = $2 "." }
         /^}/ { type = "" }
         /^pub use / {
