@@ -11,7 +11,7 @@ ghost use Rattle.book.specs.Closing.{closed_at};
 ghost use Rattle.book.specs.Parts.{part_start};
 
 use line::Line;
-use seen::Seen;
+pub use seen::Seen;
 
 mod resting; // resting.rt: the identifiers that rest
 mod seen; // seen.rt: which identifiers were seen

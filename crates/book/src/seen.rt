@@ -10,14 +10,14 @@ pub struct Seen {
 
 impl Seen {
     // None was seen.
-    pub fn none() -> Seen
+    pub(crate) fn none() -> Seen
         ensures { result.marks ≡ none }
     {
         Seen { marks: [0; 128] }
     }
 
     // The identifier is seen. Is it new?
-    pub fn note(&mut self, identifier: u8) -> bool
+    pub(crate) fn note(&mut self, identifier: u8) -> bool
         requires { identifier < 128 }
         ensures new { result ≡ eqb (get_or self.old.marks identifier 0) 0 }
         ensures marked { self.new.marks ≡ set self.old.marks identifier 1 }

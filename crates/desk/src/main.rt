@@ -7,9 +7,8 @@ use answer::{Denied, Reply};
 use book::Book;
 use parse::{Request, Which};
 use script::Script;
-use std::alloc::{AllocError, Global};
 use std::io;
-use std::io::{BufReader, Input, Read};
+use std::io::{Input, Read};
 use words::Fault;
 
 mod answer; // answer.rt: the words of an answer
@@ -25,18 +24,18 @@ mod spoil; // spoil.rt: `spoil`, the part of a book that it names
 #[derive(Drop)]
 pub struct Seat {
     pub book: Book,
-    pub store: Vec<u8>,
+    pub store: [u8; Book::STORE],
     pub lent: usize,
 }
 
 impl Seat {
     // A fresh book, and the store lent whole.
-    fn fresh(alloc: Global) -> Result<Seat, AllocError> {
-        Ok(Seat {
+    fn fresh() -> Seat {
+        Seat {
             book: Book::fresh(),
-            store: vec![in alloc; 0; Book::STORE]?,
+            store: [0; Book::STORE],
             lent: Book::STORE,
-        })
+        }
     }
 
     // The octets of the store that are lent.
@@ -59,11 +58,11 @@ struct Desk {
 }
 
 impl Desk {
-    fn fresh(alloc: Global) -> Result<Desk, AllocError> {
-        Ok(Desk {
-            a: Seat::fresh(alloc)?,
-            b: Seat::fresh(alloc)?,
-        })
+    fn fresh() -> Desk {
+        Desk {
+            a: Seat::fresh(),
+            b: Seat::fresh(),
+        }
     }
 
     // The gateway that is named.
@@ -102,32 +101,48 @@ impl Desk {
         }
         Ok(())
     }
+
+    // More of the script is read: each line that ends in it is answered.
+    fn read(
+        &mut self,
+        rt: &(impl Print + Eprint),
+        script: &mut Script,
+        part: &[u8],
+        octets: &mut [u8],
+    ) -> io::Result<()> {
+        for octet in part {
+            match *octet {
+                b'\n' => {
+                    self.answer(rt, script, octets)?;
+                    script.next_line();
+                }
+                octet => script.read(octet),
+            }
+        }
+        Ok(())
+    }
 }
 
-// Reads the script to its end, and answers it line by line.
-fn run(
-    rt: &(impl Input + Print + Eprint),
-    alloc: Global,
-    desk: &mut Desk,
-    octets: &mut [u8],
-) -> io::Result<()> {
-    let mut script = Script::fresh(alloc);
-    for octet in BufReader::new(alloc, rt.reader())?.bytes() {
-        match octet? {
-            b'\n' => {
-                desk.answer(rt, &script, octets)?;
-                script.next_line();
-            }
-            octet => script.read(octet)?,
+// Reads the script to its end, part by part, and answers it line by line.
+fn run(rt: &(impl Input + Print + Eprint), desk: &mut Desk, octets: &mut [u8]) -> io::Result<()> {
+    let mut script = Script::fresh();
+    let mut reader = rt.reader();
+    let mut part = [0; 4096];
+    // A proved loop has to end, and nothing says that a script does. No run reads so many parts.
+    for _ in 0..u64::MAX {
+        let count = reader.read(&mut part)?;
+        if count == 0 {
+            break;
         }
+        desk.read(rt, &mut script, &part[..count], octets)?;
     }
-    script.settle()?;
+    script.settle();
     desk.answer(rt, &script, octets)
 }
 
 fn main(rt: HostRuntime) -> io::Result<()> {
-    let mut desk = Desk::fresh(rt.alloc())?;
+    let mut desk = Desk::fresh();
     let mut octets = [0u8; 600];
-    run(&rt, rt.alloc(), &mut desk, &mut octets)?;
+    run(&rt, &mut desk, &mut octets)?;
     rt.write_all(b"end\n")
 }

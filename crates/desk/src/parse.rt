@@ -111,7 +111,7 @@ const BITS32: Kind = Kind::UpTo(0xffff_ffff);
 const BITS64: Kind = Kind::UpTo(u64::MAX);
 
 // The calls at a gateway, besides `spoil`, whose words are those of the part that it sets.
-static CALLS: [Entry<Call>; 13] = [
+static CALLS: [Entry<'static, Call>; 13] = [
     Entry(b"fresh", Call::Fresh, &[]),
     Entry(b"lend", Call::Lend, &[Kind::UpTo(Book::STORE as u64)]),
     Entry(
@@ -132,7 +132,7 @@ static CALLS: [Entry<Call>; 13] = [
 ];
 
 // The parts that `spoil` sets, those of the book first.
-static PARTS: [Entry<Part>; 23] = [
+static PARTS: [Entry<'static, Part>; 23] = [
     Entry(b"rested", Part::OfBook(BookPart::Rested), &[BITS8]),
     Entry(
         b"resting",
@@ -203,7 +203,7 @@ static PARTS: [Entry<Part>; 23] = [
 ];
 
 // What is done with a CONNECT, with a BREAK and with a slip.
-static OF_CONNECT: [Entry<BodyCall>; 2] = [
+static OF_CONNECT: [Entry<'static, BodyCall>; 2] = [
     Entry(b"read", BodyCall::ReadConnect, &[Kind::Octets]),
     Entry(
         b"write",
@@ -232,7 +232,7 @@ static OF_CONNECT: [Entry<BodyCall>; 2] = [
     ),
 ];
 
-static OF_BREAK: [Entry<BodyCall>; 2] = [
+static OF_BREAK: [Entry<'static, BodyCall>; 2] = [
     Entry(b"read", BodyCall::ReadBreak, &[Kind::Octets]),
     Entry(
         b"write",
@@ -241,7 +241,11 @@ static OF_BREAK: [Entry<BodyCall>; 2] = [
     ),
 ];
 
-static OF_SLIP: [Entry<BodyCall>; 1] = [Entry(b"read", BodyCall::ReadSlip, &[Kind::Octets])];
+static OF_SLIP: [Entry<'static, BodyCall>; 1] = [Entry(
+    b"read",
+    BodyCall::ReadSlip,
+    &[Kind::Octets],
+)];
 
 // The line that a word numbers, 0 to 3.
 fn line_of(word: &[u8]) -> Option<u8> {
@@ -275,7 +279,11 @@ fn at_gateway(which: Which, said: &[u8], octets: &mut [u8]) -> Result<Request, F
 }
 
 // What the words behind `connect`, `break` or `slip` ask for.
-fn of_body(table: &[Entry<BodyCall>], said: &[u8], octets: &mut [u8]) -> Result<Request, Fault> {
+fn of_body(
+    table: &[Entry<'_, BodyCall>],
+    said: &[u8],
+    octets: &mut [u8],
+) -> Result<Request, Fault> {
     let (call, a) = words::call(said, table, octets)?;
     Ok(Request::Body(call, a))
 }

@@ -1,10 +1,13 @@
 // The octets of a script, cut into lines one by one, so that a script of any length is read with little memory. Blank lines and
 // comments are counted and passed over.
-use std::alloc::{AllocError, Global};
+use arrayvec::ArrayVec;
 use std::num::wrapping_add_u64;
 
 // The most octets of a line that is a call.
 pub const LONGEST: usize = 2000;
+
+// How many octets of a line are kept: one more shows that it is too long.
+const KEPT: usize = LONGEST + 1;
 
 // What a line is, as far as it was read.
 #[derive(Clone, Copy, Debug, PartialEq, Eq)]
@@ -21,19 +24,19 @@ pub struct Script {
     // The line's number, from 1, with every line counted.
     pub number: u64,
     sort: Sort,
-    // Its octets; of a line that is too long the first of them, one more than a line may have.
-    octets: Vec<u8>,
+    // Its octets; of a line that is too long the first of them.
+    octets: ArrayVec<u8, KEPT>,
     // A carriage return was read that is part of a word unless a line feed follows.
     returned: bool,
 }
 
 impl Script {
     // The first line, of which nothing is read yet.
-    pub fn fresh(alloc: Global) -> Script {
+    pub fn fresh() -> Script {
         Script {
             number: 1,
             sort: Sort::Blank,
-            octets: Vec::new(alloc),
+            octets: ArrayVec::new(),
             returned: false,
         }
     }
@@ -55,7 +58,7 @@ impl Script {
     }
 
     // The line has one octet more.
-    fn push(&mut self, octet: u8) -> Result<(), AllocError> {
+    fn push(&mut self, octet: u8) {
         if self.sort == Sort::Blank && !words::parts(octet) {
             self.sort = if octet == b'#' {
                 Sort::Comment
@@ -63,28 +66,26 @@ impl Script {
                 Sort::Call
             };
         }
-        if self.octets.len() <= LONGEST {
-            self.octets.push(octet)?;
+        if !self.octets.is_full() {
+            self.octets.push(octet);
         }
-        Ok(())
     }
 
     // No line feed follows a carriage return.
-    pub fn settle(&mut self) -> Result<(), AllocError> {
+    pub fn settle(&mut self) {
         if self.returned {
             self.returned = false;
-            self.push(b'\r')?;
+            self.push(b'\r');
         }
-        Ok(())
     }
 
     // An octet is read that is no line feed.
-    pub fn read(&mut self, octet: u8) -> Result<(), AllocError> {
-        self.settle()?;
+    pub fn read(&mut self, octet: u8) {
+        self.settle();
         if octet == b'\r' {
             self.returned = true;
-            return Ok(());
+        } else {
+            self.push(octet);
         }
-        self.push(octet)
     }
 }

@@ -132,7 +132,9 @@ fn way(part: LinePart) -> Option<Way> {
 }
 
 // Where the slot of a message that is to be held or stored begins in the line's part of the store, if the part names one.
-pub fn slot(line: &Line, part: LinePart, a: Arguments) -> Option<usize> {
+pub fn slot(line: &Line, part: LinePart, a: Arguments) -> Option<usize>
+    ensures { IfSome result (λ at. at < 65536) }
+{
     let channel = a.octet(0);
     let region = line.region(way(part)?, channel);
     Some(region.slot(less(channel, a.full(1))))

@@ -2,12 +2,15 @@
 -- Assumes nothing.
 use mathlib.Core.Path.{◌≡◌, refl, sym, ap, ◌∙◌}
 use mathlib.Core.List.{List, [], ◌∷◌, ◌++◌}
-use Prim.Native.Nat.{ℕ, suc, ◌+◌, ◌*◌, ◌≤◌, ◌<◌}
+use mathlib.Core.Bool.{Bool, true, false}
+use Prim.Native.Nat.{ℕ, suc, ◌+◌, ◌-◌, ◌*◌, ◌≤◌, ◌<◌, min}
 use native.Mathlib.Nat.{add-zero, zero-add, add-suc, suc-add, le_of_lt}
 use native.Mathlib.Numerals.{add-one}
 use native.Mathlib.Omega.{arith}
+use lib.Dec.{leb}
 use lib.ListN.{length, set, get_or, take, drop, take-append-drop}
 use lib.Seq.{sets, sets-eq, length-sets, set_out, take-suc, take-length, length-take-le}
+use borrow.Author.Tests.{leb-true, leb-false}
 use Rattle.std.specs.Prelude.{Ok}
 use Rattle.ground.specs.Refusal.{Verdict, Test, verdict}
 use Rattle.ground.specs.Answer.{Writes}
@@ -26,16 +29,34 @@ sets_append (a ∷ u) v l i =
     sets_append u v (set l i a) (suc i)
     ∙ ap (λ (k : ℕ). sets (sets (set l i a) (suc i) u) k v) (suc-add i (length u) ∙ sym (add-suc i (length u)))
 
+-- a run of stores, longer by one octet
+pub octets_on : (l : List ℕ) (i : ℕ) (vs : List ℕ) (k : ℕ) → k < length vs → set (sets l i (take k vs)) (i + k) (get_or vs k 0) ≡ sets l i (take (k + 1) vs)
+octets_on l i vs k h =
+    sym (rw (add-one k, take-suc vs k 0 h)
+    (sets_append (take k vs) (get_or vs k 0 ∷ []) l i ∙ ap (λ (n : ℕ). set (sets l i (take k vs)) (i + n) (get_or vs k 0)) (length-take-le k vs (le_of_lt h))))
+
 -- what has no place is not stored: a run may be cut to the n that have one
-pub sets_cut : (l : List ℕ) (i n : ℕ) (vs : List ℕ) → i + n ≡ length l → n ≤ length vs → sets l i (take n vs) ≡ sets l i vs
-sets_cut l i n vs h k =
-    let m : length (take n vs) ≡ n = length-take-le n vs k in
-    let r : length (sets l i (take n vs)) ≤ i + length (take n vs) = omega (arith, length-sets l i (take n vs)) in
-    sym (sets_out (sets l i (take n vs)) (i + length (take n vs)) (drop n vs) r) ∙ sym (sets_append (take n vs) (drop n vs) l i)
-    ∙ ap (sets l i) (take-append-drop n vs)
+pub sets_cut : (l : List ℕ) (i n : ℕ) (vs : List ℕ) → i ≤ length l → n ≡ min (length vs) (length l - i) → sets l i (take n vs) ≡ sets l i vs
+sets_cut l i n vs h e = go (leb (length vs) n) refl
+  where
+    go : (b : Bool) → leb (length vs) n ≡ b → sets l i (take n vs) ≡ sets l i vs
+    go true t =
+        let k : length vs ≤ n = leb-true _ _ t in
+        let q : n ≡ length vs = omega arith in
+        ap (λ (m : ℕ). sets l i (take m vs)) q ∙ ap (sets l i) (take-length vs)
+    go false f =
+        let k : n < length vs = leb-false _ _ f in
+        let m : length (take n vs) ≡ n = length-take-le n vs (le_of_lt k) in
+        let r : length (sets l i (take n vs)) ≤ i + length (take n vs) = omega (arith, length-sets l i (take n vs)) in
+        sym (sets_out (sets l i (take n vs)) (i + length (take n vs)) (drop n vs) r) ∙ sym (sets_append (take n vs) (drop n vs) l i)
+        ∙ ap (sets l i) (take-append-drop n vs)
+
+-- the same where the n reach to the end
+pub sets_filled : (l : List ℕ) (i n : ℕ) (vs : List ℕ) → i + n ≡ length l → n ≤ length vs → sets l i (take n vs) ≡ sets l i vs
+sets_filled l i n vs h k = sets_cut l i n vs (omega arith) (omega arith)
 
 -- where a run is stored whole, where it is cut, and where it has no place
-pub ruleset placed = (sets-eq, sets_cut, sets_out)
+pub ruleset placed = (sets-eq, sets_filled, sets_out)
 
 -- words one after the other
 words_append : (u v : List ℕ) → word_octets (u ++ v) ≡ word_octets u ++ word_octets v

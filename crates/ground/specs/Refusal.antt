@@ -1,6 +1,6 @@
 -- Refusals: their numbers, and the order in which tests are made.
 -- Assumes nothing.
-use Rattle.std.specs.Prelude.{ℕ, Bool, List, [], ◌∷◌, Result, Ok, Err}
+use Rattle.std.specs.Prelude.{ℕ, Bool, List, [], ◌∷◌, Result, Ok, Err, codes}
 use Rattle.ground.specs.Pick.{pick}
 use Rattle.ground.specs.declared.Refusal.{Refusal}
 use Rattle.ground.specs.declared.Refusal.TheVariants.{SHORT, FORM, TYPE, NOLINE, MODE, CHANNEL, SIZE, FULL, SPENT, NOTHING, ROOM, TAKEN, RANGE, CLOCK, RECOVERY, LENGTH, RESERVED, BOOK}
@@ -25,6 +25,27 @@ number_of RECOVERY = 15
 number_of LENGTH = 16
 number_of RESERVED = 17
 number_of BOOK = 18
+
+-- the name of each refusal, as the rules write it (RULES 13.1 to RULES 13.18)
+abbrev pub name_of : Refusal → List ℕ
+name_of SHORT = codes "SHORT"
+name_of FORM = codes "FORM"
+name_of TYPE = codes "TYPE"
+name_of NOLINE = codes "NOLINE"
+name_of MODE = codes "MODE"
+name_of CHANNEL = codes "CHANNEL"
+name_of SIZE = codes "SIZE"
+name_of FULL = codes "FULL"
+name_of SPENT = codes "SPENT"
+name_of NOTHING = codes "NOTHING"
+name_of ROOM = codes "ROOM"
+name_of TAKEN = codes "TAKEN"
+name_of RANGE = codes "RANGE"
+name_of CLOCK = codes "CLOCK"
+name_of RECOVERY = codes "RECOVERY"
+name_of LENGTH = codes "LENGTH"
+name_of RESERVED = codes "RESERVED"
+name_of BOOK = codes "BOOK"
 
 -- a test, and what is answered where it does not hold
 pub record Test : Type 0 where

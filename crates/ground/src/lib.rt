@@ -2,8 +2,8 @@
 // A call that may refuse answers a `Result` of what it gives, or of one of these.
 #![tactic(auto)]
 
-ghost use Rattle.std.specs.Prelude.{◌≡◌};
-ghost use Rattle.ground.specs.Refusal.{number_of};
+ghost use Rattle.std.specs.Prelude.{◌≡◌, Some};
+ghost use Rattle.ground.specs.Refusal.{number_of, name_of};
 
 use std::fmt;
 
@@ -58,10 +58,12 @@ impl From<Refusal> for u8 {
     }
 }
 
-// The name of a refusal, as the rules write it.
+// The name of a refusal, as the rules write it (RULES 13.1 to RULES 13.18).
 impl fmt::Display for Refusal {
+    ghost output = { λ r. Some (name_of r) };
+
     fn fmt<W: fmt::Write>(&self, f: &mut fmt::Formatter<W>) -> fmt::Result {
-        let name = match self {
+        f.write_str(match self {
             Refusal::SHORT => "SHORT",
             Refusal::FORM => "FORM",
             Refusal::TYPE => "TYPE",
@@ -80,7 +82,6 @@ impl fmt::Display for Refusal {
             Refusal::LENGTH => "LENGTH",
             Refusal::RESERVED => "RESERVED",
             Refusal::BOOK => "BOOK",
-        };
-        f.write_str(name)
+        })
     }
 }

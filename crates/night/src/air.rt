@@ -2,9 +2,11 @@
 // delays each by one to four turns, and a repetition by one to eight, so that some overtake others.
 use crate::clock::Turn;
 use crate::dice::{Dice, Purpose};
+use crate::station::PACKET;
 use crate::stream::{End, Stream};
 use crate::tally::Tally;
-use std::alloc::{AllocError, Global};
+use arrayvec::ArrayVec;
+use std::array;
 
 // A packet under way.
 #[derive(Drop)]
@@ -12,7 +14,7 @@ pub struct Packet {
     // The stream that it was written for, and which packet of it this is, from 1; none where it is a repetition.
     pub stream: Stream,
     pub serial: Option<u64>,
-    pub octets: Vec<u8>,
+    pub octets: ArrayVec<u8, PACKET>,
     // The turn in which it arrives.
     due: u32,
 }
@@ -27,32 +29,22 @@ impl Packet {
 // How many packets there can be under way; those written to a full link are lost.
 const PLACES: usize = 512;
 
+// The packet at a place, if it arrives at an end in this turn; it leaves the air.
+pub fn landing(place: &mut Option<Packet>, end: End, turn: Turn) -> Option<Packet> {
+    place.take_if(|packet| packet.arrives(end, turn))
+}
+
 #[derive(Drop)]
 pub struct Air {
-    places: Vec<Option<Packet>>,
+    pub places: [Option<Packet>; PLACES],
 }
 
 impl Air {
-    pub fn new(alloc: Global) -> Result<Air, AllocError> {
-        let mut places = Vec::new(alloc);
-        places.resize_with(PLACES, || None)?;
-        Ok(Air { places })
-    }
-
-    // The packets that arrive at an end in this turn; they leave the air.
-    pub fn landing(
-        &mut self,
-        alloc: Global,
-        end: End,
-        turn: Turn,
-    ) -> Result<Vec<Packet>, AllocError> {
-        let mut packets = Vec::new(alloc);
-        for place in self.places.iter_mut() {
-            if let Some(packet) = place.take_if(|packet| packet.arrives(end, turn)) {
-                packets.push(packet)?;
-            }
+    // Nothing is under way.
+    pub fn new() -> Air {
+        Air {
+            places: array::from_fn(|_| None),
         }
-        Ok(packets)
     }
 
     // A packet is under way, in the first free place, or lost where there is none.
@@ -67,18 +59,19 @@ impl Air {
     // repetition is due in one to eight.
     pub fn launch(
         &mut self,
-        octets: Vec<u8>,
+        octets: ArrayVec<u8, PACKET>,
         stream: Stream,
         dice: Dice,
         tally: &mut Tally,
-    ) -> Result<(), AllocError> {
+    ) {
         let serial = tally.note_written();
         if dice.roll(stream, Purpose::Loss(serial)) < 32 {
             tally.note_lost();
-            return Ok(());
+            return;
         }
+        // To copy the octets allocates nothing, so it never fails.
         let again = if dice.roll(stream, Purpose::Repetition(serial)) < 16 {
-            Some(octets.clone()?)
+            Some(octets.clone().unwrap())
         } else {
             None
         };
@@ -102,6 +95,5 @@ impl Air {
             };
             self.set_off(repetition, tally);
         }
-        Ok(())
     }
 }

@@ -1,10 +1,12 @@
 // What the gateway at one end of the lines does in a turn: messages are taken, written, read as they arrive, and handed out.
+use crate::air;
+use crate::air::Packet;
 use crate::dice::Purpose;
 use crate::message::Message;
 use crate::station::Station;
 use crate::stream::{Channel, LINES, Stream};
+use crate::tally::Tally;
 use crate::world::World;
-use std::alloc::AllocError;
 
 // How many steps of each stream there are in a turn.
 const STEPS: u8 = 4;
@@ -29,98 +31,94 @@ fn pace(line: u8) -> u8 {
 
 impl Station {
     // Reads what arrives in a turn, and does the turn's work.
-    pub fn serve(&mut self, world: &mut World) -> Result<(), AllocError> {
-        self.read_arrivals(world)?;
-        self.work(world)
+    pub fn serve(&mut self, world: &mut World) {
+        self.read_arrivals(world);
+        self.work(world);
     }
 
-    fn read_arrivals(&mut self, world: &mut World) -> Result<(), AllocError> {
-        for packet in world.landing(self.end)? {
-            let tally = world.ledger.of_mut(packet.stream);
-            tally.note_arrived(packet.serial);
-            if self.arrive(&packet.octets).is_err() {
-                tally.note_refused();
+    fn read_arrivals(&mut self, world: &mut World) {
+        let end = self.end;
+        let turn = world.dice.turn;
+        for place in world.air.places.iter_mut() {
+            if let Some(packet) = air::landing(place, end, turn) {
+                self.read(&packet, world.ledger.of_mut(packet.stream));
             }
         }
-        Ok(())
+    }
+
+    // Reads a packet that arrives, and counts it among its stream's.
+    fn read(&mut self, packet: &Packet, tally: &mut Tally) {
+        tally.note_arrived(packet.serial);
+        if self.arrive(&packet.octets).is_err() {
+            tally.note_refused();
+        }
     }
 
     // Four steps of each of the eight streams that this end sends.
-    fn work(&mut self, world: &mut World) -> Result<(), AllocError> {
+    fn work(&mut self, world: &mut World) {
         for line in 0..LINES {
             for channel in [Channel::One, Channel::Two] {
                 let stream = Stream::new(self.end, line, channel);
                 for step in 0..STEPS {
-                    self.step(world, stream, step)?;
+                    self.step(world, stream, step);
                 }
             }
         }
-        Ok(())
     }
 
     // One step of a stream; what comes back on its channel is handed out. An empty packet is written in a turn's first step only.
-    fn step(&mut self, world: &mut World, stream: Stream, step: u8) -> Result<(), AllocError> {
+    fn step(&mut self, world: &mut World, stream: Stream, step: u8) {
         if world.ledger.is_done_both_ways(stream) {
-            return Ok(());
+            return;
         }
-        self.take_next(world, stream)?;
-        self.fetch(world, stream.back(), step)?;
-        self.write_held(world, stream, step)?;
+        self.take_next(world, stream);
+        self.fetch(world, stream.back(), step);
+        self.write_held(world, stream, step);
         if step == 0 {
-            self.write_empty(world, stream)?;
+            self.write_empty(world, stream);
         }
-        Ok(())
     }
 
     // Takes the next message of a stream, if one is left and its channel has room.
-    fn take_next(&mut self, world: &mut World, stream: Stream) -> Result<(), AllocError> {
+    fn take_next(&mut self, world: &mut World, stream: Stream) {
         let tally = world.ledger.of_mut(stream);
         if tally.asked <= tally.taken {
-            return Ok(());
+            return;
         }
-        let message = Message::of(stream, tally.taken).octets(world.alloc)?;
+        let message = Message::of(stream, tally.taken).octets();
         if self.take(stream, &message).is_ok() {
             tally.note_taken(message.len() as u64);
         }
-        Ok(())
     }
 
     // Hands out the next message of a stream, and holds it against the one that was taken.
-    fn fetch(&mut self, world: &mut World, stream: Stream, step: u8) -> Result<(), AllocError> {
+    fn fetch(&mut self, world: &mut World, stream: Stream, step: u8) {
         if pace(stream.line) <= world.dice.roll(stream, Purpose::Fetch(step)) {
-            return Ok(());
+            return;
         }
-        if let Some(octets) = self.hand_out(world.alloc, stream)? {
+        if let Some(octets) = self.hand_out(stream) {
             let tally = world.ledger.of_mut(stream);
             let right = Message::of(stream, tally.handed_out).says(&octets);
             tally.note_handed_out(right);
         }
-        Ok(())
     }
 
     // Writes one of the messages that are held.
-    fn write_held(
-        &mut self,
-        world: &mut World,
-        stream: Stream,
-        step: u8,
-    ) -> Result<(), AllocError> {
+    fn write_held(&mut self, world: &mut World, stream: Stream, step: u8) {
         let held = self.held(stream).unwrap_or(0);
         let roll = world.dice.roll(stream, Purpose::Rank(step));
         let Some(rank) = rank(held, roll) else {
-            return Ok(());
+            return;
         };
-        match self.send(world.alloc, stream, rank)? {
-            Some(octets) => world.launch(stream, octets),
-            None => Ok(()),
+        if let Some(octets) = self.send(stream, rank) {
+            world.launch(stream, octets);
         }
     }
 
     // Writes an empty packet: acknowledgements and base news.
-    fn write_empty(&mut self, world: &mut World, stream: Stream) -> Result<(), AllocError> {
-        match self.empty(world.alloc, stream)? {
-            Some(octets) => world.launch(stream, octets),
-            None => Ok(()),
+    fn write_empty(&mut self, world: &mut World, stream: Stream) {
+        if let Some(octets) = self.empty(stream) {
+            world.launch(stream, octets);
         }
     }
 }

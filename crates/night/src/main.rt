@@ -4,7 +4,6 @@
 #![tactic(auto)]
 
 use clock::Turn;
-use std::alloc::{AllocError, Global};
 use std::env::FillError;
 use std::rt::Env;
 use std::{io, str};
@@ -37,11 +36,11 @@ struct Night {
 }
 
 impl Night {
-    fn new(alloc: Global, seed: u64) -> Result<Night, AllocError> {
-        Ok(Night {
-            ends: Ends::new(alloc)?,
-            world: World::new(alloc, seed)?,
-        })
+    fn new(seed: u64) -> Night {
+        Night {
+            ends: Ends::new(),
+            world: World::new(seed),
+        }
     }
 
     // Line 3 begins its second call once its first is done.
@@ -57,8 +56,8 @@ impl Night {
     // One turn.
     fn turn(&mut self, rt: &impl Print) -> io::Result<()> {
         let turn = self.world.dice.turn;
-        self.ends.site.serve(&mut self.world)?;
-        self.ends.office.serve(&mut self.world)?;
+        self.ends.site.serve(&mut self.world);
+        self.ends.office.serve(&mut self.world);
         if turn.0 % BAR == 0 {
             paper::progress(rt, turn, &self.world.ledger)?;
         }
@@ -108,8 +107,8 @@ fn seed(rt: &impl Env) -> Option<u64> {
 }
 
 // A night of that seed.
-fn run(rt: &impl Print, alloc: Global, seed: u64) -> io::Result<()> {
-    let mut night = Night::new(alloc, seed)?;
+fn run(rt: &impl Print, seed: u64) -> io::Result<()> {
+    let mut night = Night::new(seed);
     paper::title(rt, seed)?;
     night.run(rt)?;
     paper::table(rt, &night.world.ledger)?;
@@ -118,7 +117,7 @@ fn run(rt: &impl Print, alloc: Global, seed: u64) -> io::Result<()> {
 
 fn main(rt: HostRuntime) -> io::Result<()> {
     match seed(&rt) {
-        Some(seed) => run(&rt, rt.alloc(), seed),
+        Some(seed) => run(&rt, seed),
         None => println!(rt; "night: the seed is a number of at most 20 digits"),
     }
 }

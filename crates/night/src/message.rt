@@ -1,8 +1,9 @@
 // What each message says. The k-th message of a stream is worked out, never kept, so that what is handed out is held against
 // what was taken and not against a copy.
 use crate::dice;
+use crate::station::MESSAGE;
 use crate::stream::Stream;
-use std::alloc::{AllocError, Global};
+use arrayvec::ArrayVec;
 
 #[derive(Clone, Copy)]
 pub struct Message {
@@ -27,8 +28,13 @@ impl Message {
         (dice::mixed(self.seed ^ i as u64) / 256 % 256) as u8
     }
 
-    pub fn octets(self, alloc: Global) -> Result<Vec<u8>, AllocError> {
-        (0..self.size()).map(|i| self.octet(i)).collect(alloc)
+    pub fn octets(self) -> ArrayVec<u8, MESSAGE> {
+        let mut octets = ArrayVec::from([0; MESSAGE]);
+        octets.truncate(self.size());
+        for (i, octet) in octets.iter_mut().enumerate() {
+            *octet = self.octet(i);
+        }
+        octets
     }
 
     // Does it say this, octet for octet?

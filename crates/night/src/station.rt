@@ -3,41 +3,42 @@
 ghost use Rattle.std.specs.Prelude.{◌<◌};
 
 use crate::stream::{End, Stream};
+use arrayvec::ArrayVec;
 use book::Book;
 use gateway::After;
 use ground::Refusal;
 use line::Settings;
 use mode::Due;
 use slip::Slip;
-use std::alloc::{AllocError, Global};
 
 // The most octets of a packet, and of a message.
-const PACKET: usize = 144;
+pub const PACKET: usize = 144;
 
-const MESSAGE: usize = 132;
+pub const MESSAGE: usize = 132;
 
 #[derive(Drop)]
 pub struct Station {
     pub end: End,
     book: Book,
-    store: Vec<u8>,
+    store: [u8; Book::STORE],
 }
 
 // What a call wrote to an output, if it was not refused.
-fn written(mut out: Vec<u8>, wrote: Result<usize, Refusal>) -> Option<Vec<u8>> {
+fn written<const N: usize>(out: [u8; N], wrote: Result<usize, Refusal>) -> Option<ArrayVec<u8, N>> {
     let size = wrote.ok()?;
-    out.truncate(size);
-    Some(out)
+    let mut octets = ArrayVec::from(out);
+    octets.truncate(size);
+    Some(octets)
 }
 
 impl Station {
     // Four closed lines.
-    pub fn new(alloc: Global, end: End) -> Result<Station, AllocError> {
-        Ok(Station {
+    pub fn new(end: End) -> Station {
+        Station {
             end,
             book: gateway::fresh(),
-            store: vec![in alloc; 0u8; Book::STORE]?,
-        })
+            store: [0; Book::STORE],
+        }
     }
 
     // Keeps the book that a call leaves, if it was not refused, and gives its answer.
@@ -105,13 +106,8 @@ impl Station {
     }
 
     // Writes a packet with the message of a rank among those that are held.
-    pub fn send(
-        &mut self,
-        alloc: Global,
-        stream: Stream,
-        rank: u8,
-    ) -> Result<Option<Vec<u8>>, AllocError> {
-        let mut out = vec![in alloc; 0u8; PACKET]?;
+    pub fn send(&mut self, stream: Stream, rank: u8) -> Option<ArrayVec<u8, PACKET>> {
+        let mut out = [0; PACKET];
         let sent = gateway::send(
             self.book,
             &self.store,
@@ -120,14 +116,14 @@ impl Station {
             rank,
             &mut out,
         );
-        Ok(written(out, self.keep(sent)))
+        written(out, self.keep(sent))
     }
 
     // Writes a packet with acknowledgements and base news alone.
-    pub fn empty(&mut self, alloc: Global, stream: Stream) -> Result<Option<Vec<u8>>, AllocError> {
-        let mut out = vec![in alloc; 0u8; PACKET]?;
+    pub fn empty(&mut self, stream: Stream) -> Option<ArrayVec<u8, PACKET>> {
+        let mut out = [0; PACKET];
         let sent = gateway::empty(self.book, stream.line, stream.channel.number(), &mut out);
-        Ok(written(out, self.keep(sent)))
+        written(out, self.keep(sent))
     }
 
     // A packet arrives, and its line is answered.
@@ -137,12 +133,8 @@ impl Station {
     }
 
     // Hands out the next message of a stream.
-    pub fn hand_out(
-        &mut self,
-        alloc: Global,
-        stream: Stream,
-    ) -> Result<Option<Vec<u8>>, AllocError> {
-        let mut out = vec![in alloc; 0u8; MESSAGE]?;
+    pub fn hand_out(&mut self, stream: Stream) -> Option<ArrayVec<u8, MESSAGE>> {
+        let mut out = [0; MESSAGE];
         let handed = gateway::hand_out(
             self.book,
             &self.store,
@@ -150,7 +142,7 @@ impl Station {
             stream.channel.number(),
             &mut out,
         );
-        Ok(written(out, self.keep(handed)))
+        written(out, self.keep(handed))
     }
 
     // Closes a line, and answers its slip.

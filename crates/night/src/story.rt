@@ -8,7 +8,6 @@ use crate::station::Station;
 use crate::stream::{Channel, End, LINES, Stream};
 use crate::tally::Ledger;
 use mode::Modes;
-use std::alloc::{AllocError, Global};
 use std::io;
 
 // The identifier of line 0; those of lines 1 to 3 on their first calls come after it.
@@ -70,11 +69,11 @@ pub struct Ends {
 }
 
 impl Ends {
-    pub fn new(alloc: Global) -> Result<Ends, AllocError> {
-        Ok(Ends {
-            site: Station::new(alloc, End::Site)?,
-            office: Station::new(alloc, End::Office)?,
-        })
+    pub fn new() -> Ends {
+        Ends {
+            site: Station::new(End::Site),
+            office: Station::new(End::Office),
+        }
     }
 
     // Both ends open a line.

@@ -11,7 +11,8 @@ unfolding value_from
 grows n [] = omega arith
 grows n (d ∷ ds) = omega (arith, grows (grown n d) ds)
 
-follows : (n d : ℕ) (ds : List ℕ) → says_from n (d ∷ ds) ≡ option_and_then (λ m. says_from m ds) (longer_by n d)
+-- digits say what is said once the first of them is read
+pub follows : (n d : ℕ) (ds : List ℕ) → says_from n (d ∷ ds) ≡ option_and_then (λ m. says_from m ds) (longer_by n d)
 unfolding says_from longer_by all_digits value_from
 follows n d ds = let g = grows (grown n d) ds in grind (arith, nat_tests)
 

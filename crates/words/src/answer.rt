@@ -1,5 +1,6 @@
 // The words of an answer.
 ghost use Rattle.std.specs.Prelude.{Some};
+ghost use Rattle.words.specs.Answer.{numbers_said, refusal_said};
 ghost use Rattle.words.specs.Digits.{hexadecimal};
 
 use ground::Refusal;
@@ -29,6 +30,9 @@ impl fmt::Display for Hexadecimal<'_> {
 pub struct Numbers<'a>(pub &'a [u64]);
 
 impl fmt::Display for Numbers<'_> {
+    ghost output = { λ numbers. Some (numbers_said numbers.0.now) };
+
+    #[tactic(auto, unfolding(crate::specs::Answer::numbers_said))]
     fn fmt<W: fmt::Write>(&self, f: &mut fmt::Formatter<W>) -> fmt::Result {
         f.write_str("ok")?;
         for number in self.0 {
@@ -43,6 +47,8 @@ impl fmt::Display for Numbers<'_> {
 pub struct Refused(pub Refusal);
 
 impl fmt::Display for Refused {
+    ghost output = { λ refused. Some (refusal_said refused.0) };
+
     fn fmt<W: fmt::Write>(&self, f: &mut fmt::Formatter<W>) -> fmt::Result {
         write!(f, "no {} {}", u8::from(self.0), self.0)
     }

@@ -1,5 +1,6 @@
 // The words that a call asks for, read all at once.
-ghost use Rattle.std.specs.Prelude.{◌≤◌, length, IfOk};
+ghost use Rattle.std.specs.Prelude.{◌≡◌, ◌≤◌, length, take, IfOk, Some};
+ghost use Rattle.words.specs.Answer.{fault_said};
 
 use crate::{read_mode, read_number, read_octets, split_word};
 use std::error::Error;
@@ -17,6 +18,8 @@ pub enum Fault {
 }
 
 impl fmt::Display for Fault {
+    ghost output = { λ fault. Some (fault_said fault) };
+
     fn fmt<W: fmt::Write>(&self, f: &mut fmt::Formatter<W>) -> fmt::Result {
         f.write_str(match self {
             Fault::Unknown => "no such call",
@@ -85,10 +88,10 @@ pub struct Arguments {
 
 // A call of a table: its name, which call it is, and the words that it asks for.
 #[derive(Clone, Copy)]
-pub struct Entry<C>(pub &'static [u8], pub C, pub &'static [Kind]);
+pub struct Entry<'a, C>(pub &'a [u8], pub C, pub &'a [Kind]);
 
 // The words of a call, each of the kind asked for. Octets are put at the start of `out`, which is their most. The first fault is told.
-fn read(line: &[u8], kinds: &[Kind], out: &mut [u8]) -> Result<Arguments, Fault>
+pub fn read(line: &[u8], kinds: &[Kind], out: &mut [u8]) -> Result<Arguments, Fault>
     ensures { IfOk result (λ arguments. arguments.size ≤ length out.new) }
 {
     let mut values = [0; 19];
@@ -114,7 +117,7 @@ fn read(line: &[u8], kinds: &[Kind], out: &mut [u8]) -> Result<Arguments, Fault>
 // The call of a table that the first word of a line names, and the words that it asks for.
 pub fn call<C: Copy>(
     line: &[u8],
-    table: &[Entry<C>],
+    table: &[Entry<'_, C>],
     out: &mut [u8],
 ) -> Result<(C, Arguments), Fault>
     ensures { IfOk result (λ named. named.1.size ≤ length out.new) }
@@ -160,8 +163,11 @@ impl Arguments {
     {
         most.min(self.long(i) as usize)
     }
+
     // The octets that were read, which lie at the start of `out`.
-    pub fn octets(self, out: &[u8]) -> &[u8] {
+    pub fn octets(self, out: &[u8]) -> &[u8]
+        ensures { result.now ≡ take self.size out.now }
+    {
         &out[..self.size.min(out.len())]
     }
 }

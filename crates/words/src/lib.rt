@@ -9,7 +9,7 @@ mod arguments; // arguments.rt: the words that a call asks for, all at once
 mod digits; // digits.rt: what digits say
 
 pub use answer::{Hexadecimal, Numbers, Refused};
-pub use arguments::{Arguments, Entry, Fault, Kind, call};
+pub use arguments::{Arguments, Entry, Fault, Kind, call, read};
 pub use digits::read_number;
 
 // Does an octet part words: a space or a tab?
